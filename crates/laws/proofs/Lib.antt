@@ -1,0 +1,10 @@
+-- Laws of the shared definitions.
+pub mod Tests
+pub mod Sums
+pub mod Widths
+pub mod Search
+pub mod Lists
+pub mod Lex
+pub mod Rank
+pub mod Checks
+pub mod Bits

@@ -1,0 +1,36 @@
+-- Laws of tests. Assumes nothing.
+use mathlib.Core.Path.{_≡_, refl, sym, _∙_, subst}
+use mathlib.Core.Logic.{_⊎_, inl, inr, ⊎-elim}
+use mathlib.Core.Bool.{Bool, true, false, _&&_, _||_}
+use Prim.Native.Nat.{ℕ, _≤_, _<_}
+use native.Mathlib.Nat.{lt-of-not-le}
+use native.Mathlib.Decide.{decLt}
+use native.Mathlib.Omega.{arith}
+use lib.Dec.{T, ltb}
+use borrow.Author.Tests.{le-ltb, lt-ltb, le-leb, lt-leb, eq-eqb, ne-eqb}
+
+-- what a comparison comes to, from the fact that decides it
+pub ruleset tests = (le-ltb, lt-ltb, le-leb, lt-leb, eq-eqb, ne-eqb)
+
+-- a test with its value
+pub tested : (b : Bool) → (b ≡ true) ⊎ (b ≡ false)
+tested true = inl refl
+tested false = inr refl
+
+pub clash : (b : Bool) → b ≡ true → b ≡ false → ⊥
+clash b p q = subst T (sym p ∙ q) tt
+
+pub is-false : (b : Bool) → (b ≡ true → ⊥) → b ≡ false
+is-false true h = absurd (h refl)
+is-false false h = refl
+
+pub both : (a b : Bool) → a && b ≡ true → (a ≡ true) × (b ≡ true)
+both true b e = (refl, e)
+both false b e = (e, cc)
+
+pub lt-or-le : (a b : ℕ) → (a < b) ⊎ (b ≤ a)
+lt-or-le a b = elim (decLt a b) [ yes h ↦ inl h | no h ↦ inr (omega (arith, lt-of-not-le h)) ]
+
+-- two tests agree where each side of the one gives the same side of the other
+pub ltb-same : {a b c d : ℕ} → (a < b → c < d) → (b ≤ a → d ≤ c) → ltb a b ≡ ltb c d
+ltb-same {a} {b} {c} {d} f g = ⊎-elim (λ h. lt-ltb a b h ∙ sym (lt-ltb c d (f h))) (λ h. le-ltb a b h ∙ sym (le-ltb c d (g h))) (lt-or-le a b)

@@ -1,0 +1,47 @@
+-- Sums of numbers of k bits, for every k: they stay small, so a sum that is kept modulo m is the sum itself. Assumes nothing.
+use mathlib.Core.Path.{_≡_, refl, sym, _∙_, ap, subst}
+use Prim.Native.Nat.{ℕ, zero, suc, _+_, _*_, _%_, _^_, _≤_, _<_}
+use native.Mathlib.Nat.{mul-le-mul-right, suc-mul, mod-eq-of-lt, lt-of-lt-of-le}
+use native.Mathlib.Numerals.{add-one}
+use native.Mathlib.Omega.{arith}
+use Rattle.laws.specs.Sums.{sumBelow}
+use Rattle.laws.proofs.Sums.{sum-none, sum-step}
+
+-- v is at most what i numbers of k bits come to
+unfoldable pub AtMost : (k i v : ℕ) → Type 0
+AtMost k i v = v ≤ i * 2 ^ k
+
+module _ (k : ℕ) where
+  pub none-at-most : (v : ℕ) → v ≡ 0 → AtMost k 0 v
+  unfolding AtMost
+  none-at-most v e = omega (arith, e)
+
+  pub one-more : (i v x : ℕ) → AtMost k i v → x < 2 ^ k → AtMost k (i + 1) (v + x)
+  unfolding AtMost
+  one-more i v x h f = omega (arith, suc-mul i (2 ^ k), ap (λ (m : ℕ). m * 2 ^ k) (add-one i))
+
+  pub within : (i v n : ℕ) → AtMost k i v → i ≤ n → v ≤ n * 2 ^ k
+  unfolding AtMost
+  within i v n h f = omega (arith, mul-le-mul-right (2 ^ k) f)
+
+  -- one term more stays below what n terms come to
+  pub below : (i v x n : ℕ) → AtMost k i v → x < 2 ^ k → i < n → v + x < n * 2 ^ k
+  unfolding AtMost
+  below i v x n h f l = omega (arith, mul-le-mul-right (2 ^ k) l, suc-mul i (2 ^ k))
+
+-- v is the sum of the first i of the numbers f, each of k bits
+pub record Summing (k : ℕ) (f : ℕ → ℕ) (i v : ℕ) : Type 0 where
+  pub is : v ≡ sumBelow f i
+  pub short : AtMost k i v
+
+module _ {k : ℕ} {f : ℕ → ℕ} where
+  pub summing : {v : ℕ} → v ≡ 0 → Summing k f 0 v
+  summing {v} e = record { is = e ∙ sym (sum-none f); short = none-at-most k v e }
+
+  pub summing-more : {i v : ℕ} (x v′ : ℕ) → Summing k f i v → x ≡ f i → x < 2 ^ k → v′ ≡ v + x → Summing k f (i + 1) v′
+  summing-more {i} {v} x v′ s e h a = record { is = sum-step f i v x v′ a (s .is) e; short = subst (λ (n : ℕ). AtMost k (i + 1) n) (sym a) (one-more k i v x (s .short) h) }
+
+  -- the same for a sum that is kept modulo m, where n terms fit
+  pub summing-mod : (m n : ℕ) → n * 2 ^ k ≤ m → {i v : ℕ} (x v′ : ℕ) → Summing k f i v → i < n → x ≡ f i → x < 2 ^ k → v′ ≡ (v + x) % m → Summing k f (i + 1) v′
+  summing-mod m n fits {i} {v} x v′ s l e h a =
+      summing-more x v′ s e h (a ∙ mod-eq-of-lt (lt-of-lt-of-le (below k i v x n (s .short) h l) fits))

@@ -1,0 +1,1 @@
+// No code: definitions (specs/) and laws (proofs/) that several crates share, each stated once.
