@@ -1,0 +1,6 @@
+-- Laws of two-word numbers.
+pub mod Laws
+pub mod Words
+pub mod Columns
+pub mod Long
+pub mod Quotient

@@ -1,0 +1,2 @@
+-- Definitions of two-word numbers.
+pub mod Value

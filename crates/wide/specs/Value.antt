@@ -1,0 +1,34 @@
+-- The value of a number of two 64-bit words.
+use mathlib.Core.Path.{_≡_}
+use Prim.Native.Nat.{ℕ, _+_, _-_, _*_, _/_, _%_, _^_, _<_, _≤_}
+use Rattle.wide.specs.declared.Wide.{Wide}
+use Rattle.wide.specs.declared.Division.{Division}
+
+-- two digits to the base 2 ^ k
+abbrev pub digits : ℕ → ℕ → ℕ → ℕ
+digits k hi lo = hi * 2 ^ k + lo
+
+-- the words are the two digits to the base 2 ^ 64
+unfoldable pub value : Wide → ℕ
+value w = digits 64 (w .hi) (w .lo)
+
+-- one more than the largest value of two words
+unfoldable pub modulus : ℕ
+modulus = 2 ^ 64 * 2 ^ 64
+
+-- |a - b|
+abbrev pub apart : ℕ → ℕ → ℕ
+apart a b = (a - b) + (b - a)
+
+-- quotient and remainder; by 0, as in `_/_` and `_%_`, the quotient is 0 and the remainder n
+pub record Divided (n d : ℕ) (r : Division) : Type 0 where
+  pub quotient : value (r .quotient) ≡ n / d
+  pub rest : value (r .rest) ≡ n % d
+
+-- what a turn of the long division asks, of a quotient q and a remainder r of the digits so far, a divisor d and the next digit b:
+-- the remainder is below the divisor, twice the divisor fits two words, and so does the number so far
+pub record Turn (q r d b : ℕ) : Type 0 where
+  pub below : r < d
+  pub twice : 2 * d ≤ modulus
+  pub digit : b < 2
+  pub fits : 2 * (q * d + r) + b < modulus
