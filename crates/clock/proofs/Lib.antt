@@ -1,0 +1,2 @@
+-- Laws of times.
+pub mod Laws

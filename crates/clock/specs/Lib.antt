@@ -1,0 +1,2 @@
+-- Definitions of times.
+pub mod Clock
