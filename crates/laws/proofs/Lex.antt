@@ -36,6 +36,11 @@ lex-equal a b r h = simp (le-ltb a b (omega arith), le-ltb b a (omega arith))
 pub lex-same : (a : ℕ) (r : Bool) → lex a a r ≡ r
 lex-same a r = lex-equal a a r refl
 
+-- where equals are not told apart, it is the test alone
+pub lex-false : (a b : ℕ) → lex a b false ≡ ltb a b
+unfolding lex
+lex-false a b = ⊎-elim (λ (t : ltb a b ≡ true). rw t) (λ (t : ltb a b ≡ false). ⊎-elim (λ (u : ltb b a ≡ true). rw (t, u)) (λ (u : ltb b a ≡ false). rw (t, u)) (tested (ltb b a))) (tested (ltb a b))
+
 pub lex-trans : (a b c : ℕ) (r s t : Bool) → (r ≡ true → s ≡ true → t ≡ true) → lex a b r ≡ true → lex b c s ≡ true → lex a c t ≡ true
 lex-trans a b c r s t f h k =
     ⊎-elim

@@ -4,7 +4,9 @@ pub mod Sums
 pub mod Widths
 pub mod Search
 pub mod Lists
+pub mod Sort
 pub mod Lex
 pub mod Rank
+pub mod Ranked
 pub mod Checks
 pub mod Bits

@@ -1,7 +1,7 @@
 -- Laws of tables, stores, filters and equal lists. Assumes nothing.
 use mathlib.Core.Path.{_≡_, refl, sym, ap, ap₂, _∙_, subst}
-use mathlib.Core.Logic.{_≢_}
-use mathlib.Core.Bool.{Bool, true, false, _&&_}
+use mathlib.Core.Logic.{_≢_, _↔_, inl, inr, ⊎-elim}
+use mathlib.Core.Bool.{Bool, true, false, cond, _&&_}
 use mathlib.Core.List.{List, [], _∷_}
 use Prim.Native.Nat.{ℕ, zero, suc, _+_, _≤_, _<_, zero-le}
 use native.Mathlib.Nat.{le-of-suc-le-suc, lt-of-lt-of-le, ne-of-lt}
@@ -12,8 +12,10 @@ use borrow.Author.Tests.{eqb-true, eq-eqb, ne-eqb}
 use lib.Dec.{eqb}
 use lib.ListN.{length, getD, set, drop, length-set, drop-of-length-le}
 use lib.Seq.{ext-getD, getD-set-same, getD-set-other, drop-cons}
-use Rattle.laws.specs.Lists.{table, same}
-use Rattle.laws.proofs.Tests.{both}
+use Rattle.laws.specs.Sums.{sumBelow, sumOf}
+use Rattle.laws.specs.Lists.{table, keep, Member, same}
+use Rattle.laws.proofs.Tests.{both, clash}
+use Rattle.laws.proofs.Sums.{sum-same}
 
 pub length-table : {A : Type 0} (f : ℕ → A) (n : ℕ) → length (table f n) ≡ n
 unfolding table
@@ -30,6 +32,23 @@ getD-table f (suc n) (suc k) d h = getD-table (λ i. f (suc i)) n k d (le-of-suc
 pub is-table : {A : Type 0} (f : ℕ → A) (n : ℕ) (d : A) (l : List A) → length l ≡ n → ((k : ℕ) → k < n → getD l k d ≡ f k) → l ≡ table f n
 is-table f n d l e h =
     ext-getD d l (table f n) (e ∙ sym (length-table f n)) (λ k m. let p : k < n = subst (λ (x : ℕ). k < x) e m in h k p ∙ sym (getD-table f n k d p))
+
+-- the numbers of a table added up
+pub sum-table : (f : ℕ → ℕ) (n : ℕ) → sumOf (table f n) ≡ sumBelow f n
+unfolding sumOf
+sum-table f n = rw (length-table f n) (sum-same (λ i. getD (table f n) i 0) f n (λ i h. getD-table f n i 0 h))
+
+-- what stands in a table
+pub member-table : (f : ℕ → ℕ) (n i : ℕ) → i < n → Member (f i) (table f n)
+unfolding table
+member-table f zero i h = absurd (omega (arith, h))
+member-table f (suc n) zero h = inl refl
+member-table f (suc n) (suc i) h = inr (member-table (λ k. f (suc k)) n i (le-of-suc-le-suc h))
+
+pub table-member : (P : ℕ → Type 0) (f : ℕ → ℕ) (n : ℕ) → ((i : ℕ) → P (f i)) → (x : ℕ) → Member x (table f n) → P x
+unfolding table
+table-member P f zero h x m = absurd m
+table-member P f (suc n) h x m = ⊎-elim (λ (e : x ≡ f 0). rw e (h 0)) (λ k. table-member P (λ i. f (suc i)) n (λ i. h (suc i)) x k) m
 
 -- a loop that writes a table: its first i places hold what f says
 pub record Writing {A : Type 0} (f : ℕ → A) (d : A) (n i : ℕ) (out : List A) : Type 0 where
@@ -104,3 +123,20 @@ module _ (a b : List ℕ) (k i : ℕ) (ha : length a ≡ k) (hb : length b ≡ k
 
   pub same-more : i < k → SamePast a b k i → getD a i 0 ≡ getD b i 0 → SamePast a b k (i + 1)
   same-more h v e = (omega arith, v .1 ∙ rw (add-one, same-next h, eq-eqb _ _ e))
+
+-- what stands among those that pass: what stands in the list and passes
+pub keep-members : (p : ℕ → Bool) (z : ℕ) (l : List ℕ) → Member z (keep p l) ↔ (Member z l × (p z ≡ true))
+unfolding keep
+keep-members p z [] = (absurd, λ h. h .0)
+keep-members p z (x ∷ l) = go (p x) refl (keep-members p z l)
+  where
+    go : (b : Bool) → p x ≡ b → Member z (keep p l) ↔ (Member z l × (p z ≡ true))
+        → Member z (cond b (x ∷ keep p l) (keep p l)) ↔ (Member z (x ∷ l) × (p z ≡ true))
+    go true t ih = (
+      λ h. ⊎-elim (λ e. (inl e, ap p e ∙ t)) (λ m. (inr (ih .0 m .0), ih .0 m .1)) h,
+      λ h. ⊎-elim inl (λ m. inr (ih .1 (m, h .1))) (h .0),
+    )
+    go false t ih = (
+      λ m. (inr (ih .0 m .0), ih .0 m .1),
+      λ h. ⊎-elim (λ e. absurd (clash (p z) (h .1) (ap p e ∙ t))) (λ m. ih .1 (m, h .1)) (h .0),
+    )

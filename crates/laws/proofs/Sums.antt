@@ -4,10 +4,12 @@ use mathlib.Core.Logic.{_≢_, ⊎-elim}
 use mathlib.Core.Bool.{Bool, true, false}
 use mathlib.Core.List.{List}
 use Prim.Native.Nat.{ℕ, zero, suc, _+_, _*_, _≤_, _<_, zero-le}
-use native.Mathlib.Nat.{le-refl, le-step, le-antisymm, suc-mul, eq-or-lt-of-le, le-of-suc-le-suc}
+use native.Mathlib.Nat.{le-refl, le-step, le-antisymm, suc-mul, eq-or-lt-of-le, le-of-suc-le-suc, eq-zero-or-pos}
 use native.Mathlib.Decide.{ℕ-discrete}
 use native.Mathlib.Numerals.{add-one}
 use native.Mathlib.Omega.{arith}
+use borrow.Author.Tests.{lt-ltb}
+use lib.Dec.{ltb}
 use lib.ListN.{length, getD, set}
 use lib.Seq.{getD-set-same, getD-set-other}
 use Rattle.laws.specs.Sums.{sumBelow, only, count, sumOver}
@@ -23,6 +25,12 @@ sum-suc f n = refl
 
 pub sum-more : (f : ℕ → ℕ) (n : ℕ) → sumBelow f (n + 1) ≡ sumBelow f n + f n
 sum-more f n = ap (λ (m : ℕ). sumBelow f m) (add-one n) ∙ sum-suc f n
+
+-- the first term apart
+pub sum-head : (f : ℕ → ℕ) (n : ℕ) → sumBelow f (suc n) ≡ f 0 + sumBelow (λ i. f (suc i)) n
+unfolding sumBelow
+sum-head f zero = omega arith
+sum-head f (suc n) = omega (arith, sum-head f n)
 
 -- a loop that adds up: one more term, and the end
 pub sum-step : (f : ℕ → ℕ) (i s x s′ : ℕ) → s′ ≡ s + x → s ≡ sumBelow f i → x ≡ f i → s′ ≡ sumBelow f (i + 1)
@@ -145,3 +153,10 @@ count-more p q (suc n) k l a b h =
 pub count-same : (p q : ℕ → Bool) (n : ℕ) → ((i : ℕ) → i < n → p i ≡ q i) → count p n ≡ count q n
 unfolding count
 count-same p q n h = sum-same (λ i. only (p i) 1) (λ i. only (q i) 1) n (λ i l. ap (λ (c : Bool). only c 1) (h i l))
+
+-- a sum above 0 has a term above 0
+pub some-above : (f : ℕ → ℕ) (k : ℕ) → 0 < sumBelow f k → 0 < count (λ i. ltb 0 (f i)) k
+unfolding sumBelow count
+some-above f zero h = absurd (omega arith)
+some-above f (suc k) h =
+    ⊎-elim (λ (e : f k ≡ 0). omega (arith, some-above f k (omega arith))) (λ (p : 0 < f k). omega (arith, ap (λ (b : Bool). only b 1) (lt-ltb 0 (f k) p))) (eq-zero-or-pos (f k))

@@ -1,12 +1,12 @@
 -- Laws of tests. Assumes nothing.
 use mathlib.Core.Path.{_≡_, refl, sym, _∙_, subst}
 use mathlib.Core.Logic.{_⊎_, inl, inr, ⊎-elim}
-use mathlib.Core.Bool.{Bool, true, false, _&&_, _||_}
-use Prim.Native.Nat.{ℕ, _≤_, _<_}
+use mathlib.Core.Bool.{Bool, true, false, not, _&&_, _||_}
+use Prim.Native.Nat.{ℕ, zero, suc, _≤_, _<_}
 use native.Mathlib.Nat.{lt-of-not-le}
 use native.Mathlib.Decide.{decLt}
 use native.Mathlib.Omega.{arith}
-use lib.Dec.{T, ltb}
+use lib.Dec.{T, ltb, eqb}
 use borrow.Author.Tests.{le-ltb, lt-ltb, le-leb, lt-leb, eq-eqb, ne-eqb}
 
 -- what a comparison comes to, from the fact that decides it
@@ -34,3 +34,8 @@ lt-or-le a b = elim (decLt a b) [ yes h ↦ inl h | no h ↦ inr (omega (arith, 
 -- two tests agree where each side of the one gives the same side of the other
 pub ltb-same : {a b c d : ℕ} → (a < b → c < d) → (b ≤ a → d ≤ c) → ltb a b ≡ ltb c d
 ltb-same {a} {b} {c} {d} f g = ⊎-elim (λ h. lt-ltb a b h ∙ sym (lt-ltb c d (f h))) (λ h. le-ltb a b h ∙ sym (le-ltb c d (g h))) (lt-or-le a b)
+
+-- the two tests for 0
+pub above-zero : (n : ℕ) → ltb 0 n ≡ not (eqb n 0)
+above-zero zero = refl
+above-zero (suc n) = rw (lt-ltb 0 (suc n) (omega arith), ne-eqb (suc n) 0 (omega arith))

@@ -1,11 +1,11 @@
 -- Sums of numbers of k bits, for every k: they stay small, so a sum that is kept modulo m is the sum itself. Assumes nothing.
 use mathlib.Core.Path.{_≡_, refl, sym, _∙_, ap, subst}
 use Prim.Native.Nat.{ℕ, zero, suc, _+_, _*_, _%_, _^_, _≤_, _<_}
-use native.Mathlib.Nat.{mul-le-mul-right, suc-mul, mod-eq-of-lt, lt-of-lt-of-le}
+use native.Mathlib.Nat.{mul-le-mul-right, suc-mul, mod-eq-of-lt, lt-of-lt-of-le, le-of-lt, le-refl}
 use native.Mathlib.Numerals.{add-one}
 use native.Mathlib.Omega.{arith}
 use Rattle.laws.specs.Sums.{sumBelow}
-use Rattle.laws.proofs.Sums.{sum-none, sum-step}
+use Rattle.laws.proofs.Sums.{sum-none, sum-suc, sum-step, sum-le}
 
 -- v is at most what i numbers of k bits come to
 unfoldable pub AtMost : (k i v : ℕ) → Type 0
@@ -28,6 +28,12 @@ module _ (k : ℕ) where
   pub below : (i v x n : ℕ) → AtMost k i v → x < 2 ^ k → i < n → v + x < n * 2 ^ k
   unfolding AtMost
   below i v x n h f l = omega (arith, mul-le-mul-right (2 ^ k) l, suc-mul i (2 ^ k))
+
+  -- n numbers come to less than n times 2 ^ k
+  pub sum-below : (f : ℕ → ℕ) (n : ℕ) → ((i : ℕ) → f i < 2 ^ k) → 0 < n → sumBelow f n < n * 2 ^ k
+  unfolding AtMost
+  sum-below f zero h l = absurd (omega arith)
+  sum-below f (suc n) h l = rw (sum-suc f n) (below n (sumBelow f n) (f n) (suc n) (sum-le (2 ^ k) f n (λ i _. le-of-lt (h i))) (h n) (le-refl (suc n)))
 
 -- v is the sum of the first i of the numbers f, each of k bits
 pub record Summing (k : ℕ) (f : ℕ → ℕ) (i v : ℕ) : Type 0 where

@@ -1,0 +1,23 @@
+-- `credit_math::allocation::floor_share` meets its contract. The share is at most the quantity, so it is the quotient's lower word.
+-- Assumes nothing.
+use borrow.Author.Needs.{needs}
+use Rattle.credit_math.proofs.Shares.{share-of-none}
+use Rattle.credit_math.proofs.Allotting.{share-word}
+use Rattle.credit_math.proofs.allocation.floor_share.Statement.{statement}
+use Rattle.credit_math.proofs.allocation.floor_share.Tie as tie
+
+returns : tie.Need-returns
+returns c = share-of-none _ _ _ (c .if1 .taken)
+
+product-requires : tie.Need-product-requires
+product-requires c κs = search needs
+
+div-round-requires : tie.Need-div-round-requires
+div-round-requires c κs = search needs
+
+returns-2 : tie.Need-returns-2
+returns-2 c = let s = c .before .before .before in
+    share-word _ _ _ _ (c .div-round .ensures .quotient) (c .before .product .ensures) (s .pre) (s .fits .qty .fits)
+
+pub floor-share-spec : {M : Type 1} → statement M
+floor-share-spec = tie.close (tie.spec returns product-requires div-round-requires returns-2)

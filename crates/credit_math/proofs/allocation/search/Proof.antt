@@ -1,0 +1,58 @@
+-- `credit_math::allocation::search` meets its contract. The loop's invariant is that what is left of the walk ends with the price.
+-- Assumes nothing.
+use Prim.Native.Nat.{_-_}
+use native.Mathlib.Omega.{arith}
+use lib.ListN.{length}
+use borrow.Author.Needs.{needs}
+use Rattle.credit_math.proofs.Search.{Searching, searching, searching-more, searched}
+use Rattle.credit_math.proofs.allocation.search.Statement.{statement}
+use Rattle.credit_math.proofs.allocation.search.Tie as tie
+
+abbrev Inv-loop : tie.InvT-loop
+Inv-loop is-buy limits qtys reserve reference kept₀ i₀ kept i = Searching is-buy limits qtys reserve reference kept i
+
+abbrev μ-loop : tie.MeasureT-loop
+μ-loop is-buy limits qtys reserve reference kept₀ i₀ kept i = length limits - i
+
+loop-holds : tie.Need-loop-holds Inv-loop μ-loop
+loop-holds c = searching
+
+mul-quote-at : tie.Need-mul-quote-at Inv-loop μ-loop
+mul-quote-at c = search needs
+
+shared-slice-read-quote-at : tie.Need-shared-slice-read-quote-at Inv-loop μ-loop
+shared-slice-read-quote-at c = omega arith
+
+quote-at-requires : tie.Need-quote-at-requires Inv-loop μ-loop
+quote-at-requires c κs = search needs
+
+consider-requires : tie.Need-consider-requires Inv-loop μ-loop
+consider-requires c κs = search needs
+
+add-i : tie.Need-add-i Inv-loop μ-loop
+add-i c = omega arith
+
+loop-less : tie.Need-loop-less Inv-loop μ-loop
+loop-less c = omega arith
+
+loop-again : tie.Need-loop-again Inv-loop μ-loop
+loop-again c = searching-more (c .before .quote-at .result) (c .before .before .before .before .loop .inv) (c .before .before .before .loop-test .taken) (c .before .quote-at .ensures) (c .consider .ensures)
+
+returns : tie.Need-returns Inv-loop μ-loop
+returns c = searched (c .before .loop .inv) (c .loop-test .left)
+
+pub search-spec : {M : Type 1} → statement M
+search-spec =
+    tie.close
+    (tie.spec
+    Inv-loop
+    μ-loop
+    loop-holds
+    mul-quote-at
+    shared-slice-read-quote-at
+    quote-at-requires
+    consider-requires
+    add-i
+    loop-less
+    loop-again
+    returns)

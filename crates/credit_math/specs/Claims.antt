@@ -1,0 +1,62 @@
+-- What is proved of the definitions: proofs/PriceTheorems.antt and proofs/ProRataTheorems.antt.
+use mathlib.Core.Path.{_≡_}
+use mathlib.Core.Logic.{_↔_}
+use mathlib.Core.Bool.{Bool, false}
+use mathlib.Core.List.{List}
+use Prim.Native.Nat.{ℕ, _+_, _^_, _≤_, _<_}
+use lib.Dec.{ltb}
+use lib.ListN.{length, getD}
+use Rattle.laws.specs.Sums.{count, sumOf}
+use Rattle.laws.specs.Lists.{Member}
+use Rattle.credit_math.specs.Limits.{maxOrders, sideBits, volumeBits}
+use Rattle.credit_math.specs.Price.{buy, sell, executed, better, clearPrice, priceRefusal, findUniformClearPrice, noCross, cross}
+use Rattle.credit_math.specs.ProRata.{share, residue, lots}
+use Rattle.credit_math.specs.Steps.{byOrder, lot}
+
+module _ (isBuy : List Bool) (limits qtys : List ℕ) where
+  -- p is a candidate, an order's limit at or above the reserve, and executes something
+  pub record Executes (reserve p : ℕ) : Type 0 where
+    pub limit : Member p limits
+    pub floor : reserve ≤ p
+    pub some : 0 < executed isBuy limits qtys p
+
+  -- the price is right, for every reserve and reference
+  pub record RightPrice (reserve reference : ℕ) : Type 0 where
+    -- going through the orders finds what the source's walk over the sorted limits finds
+    pub source : byOrder isBuy limits qtys reserve reference ≡ clearPrice isBuy limits qtys reserve reference
+    -- NoCross exactly where no candidate executes anything
+    pub no-cross : (findUniformClearPrice isBuy limits qtys reserve reference ≡ noCross) ↔ ((p : ℕ) → Executes reserve p → ⊥)
+    -- otherwise a candidate that executes, with its executed quantity, and no other that executes is better
+    pub best : (p v : ℕ) → findUniformClearPrice isBuy limits qtys reserve reference ≡ cross p v
+        → Executes reserve p × (v ≡ executed isBuy limits qtys p) × ((q : ℕ) → Executes reserve q → better isBuy limits qtys reference q p ≡ false)
+
+  -- for orders that the search does not refuse
+  abbrev pub PriceIsRight : Type 0
+  PriceIsRight = priceRefusal isBuy limits qtys ≡ 0 → (reserve reference : ℕ) → RightPrice reserve reference
+
+  -- 'Side totals may reach 68 bits, the volume 67': not more, for at most maxOrders orders of 64-bit quantities
+  pub record WithinBits : Type 0 where
+    pub buys : (p : ℕ) → buy isBuy limits qtys p < 2 ^ sideBits
+    pub sells : (p : ℕ) → sell isBuy limits qtys p < 2 ^ sideBits
+    pub volume : (p : ℕ) → executed isBuy limits qtys p < 2 ^ volumeBits
+
+  abbrev pub TotalsFit : Type 0
+  TotalsFit = length isBuy ≤ maxOrders → ((i : ℕ) → getD qtys i 0 < 2 ^ 64) → WithinBits
+
+-- the lots of a total within the sum
+pub record RightLots (ids qtys : List ℕ) (total : ℕ) : Type 0 where
+  -- one for each quantity
+  pub length-is : length (lots ids qtys total) ≡ length qtys
+  -- by larger quantity, lower id, earlier place: the share, and a unit where fewer places than the residue come before
+  pub by-rank : (i : ℕ) → i < length qtys → getD (lots ids qtys total) i 0 ≡ lot ids qtys total i
+  -- shares are floors: a lot is its share or one unit more
+  pub low : (i : ℕ) → i < length qtys → share total (sumOf qtys) (getD qtys i 0) ≤ getD (lots ids qtys total) i 0
+  pub high : (i : ℕ) → i < length qtys → getD (lots ids qtys total) i 0 ≤ share total (sumOf qtys) (getD qtys i 0) + 1
+  -- the residue is below the number of entries with a quantity
+  pub residue-small : 0 < sumOf qtys → residue qtys total < count (λ i. ltb 0 (getD qtys i 0)) (length qtys)
+  -- lots add up to the total, none above its quantity
+  pub adds-up : sumOf (lots ids qtys total) ≡ total
+  pub within : (i : ℕ) → getD (lots ids qtys total) i 0 ≤ getD qtys i 0
+
+abbrev pub LotsAreRight : (ids qtys : List ℕ) (total : ℕ) → Type 0
+LotsAreRight ids qtys total = total ≤ sumOf qtys → RightLots ids qtys total
