@@ -1,0 +1,2 @@
+-- How the entries' answers are read.
+pub mod Figures
