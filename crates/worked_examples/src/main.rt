@@ -3,6 +3,12 @@ use credit_math::allocation::Clearing;
 use libc::STDOUT_FILENO;
 
 fn main() {
+    show_marked_prices();
+    show_marked_lots();
+    show_wide_volumes();
+}
+
+fn show_marked_prices() {
     show_price(
         b"case L",
         &[true, true, false, false],
@@ -15,6 +21,9 @@ fn main() {
     show_pair(b"buy 5 at 10, sell 5 at 8, reserve 0, reference 10", 0, 10);
     show_pair(b"buy 5 at 10, sell 5 at 8, reserve 9, reference 9", 9, 9);
     show_pair(b"buy 5 at 10, sell 5 at 8, reserve 11, reference 9", 11, 9);
+}
+
+fn show_marked_lots() {
     show_lots(b"7 on 5, 3", 7, &[0, 1], &[5, 3], &mut [0, 0]);
     show_lots(b"1 on nothing", 1, &[], &[], &mut []);
     show_lots(b"0 on nothing", 0, &[], &[], &mut []);
@@ -26,6 +35,10 @@ fn main() {
         &[1, 1, 1],
         &mut [0, 0, 0],
     );
+}
+
+// The volumes that are run only: one past 64 bits, and one within.
+fn show_wide_volumes() {
     let half: u64 = 0x8000_0000_0000_0000;
     let sides = [true, true, false, false];
     let limits = [1, 1, 1, 1];
