@@ -2,7 +2,7 @@
 -- Assumes nothing.
 use mathlib.Core.Path.{_≡_, refl, sym, ap, _∙_}
 use mathlib.Core.Bool.{Bool, true, false}
-use Prim.Native.Nat.{ℕ, suc, _+_, _-_, _^_, _≤_, _<_}
+use Prim.Native.Nat.{ℕ, suc, _+_, _-_, _^_, _≤_, _<_, zero-le}
 use native.Mathlib.Nat.{lt-of-lt-of-le, le-of-lt}
 use native.Mathlib.Omega.{arith}
 use lib.Dec.{T, ltb, leb·zero, leb·suc-suc}
@@ -81,3 +81,18 @@ past-sum t (pos m) (pos n) e f g h = leb·zero m ∙ sym (above-all t (2 ^ 63) (
 past-sum t (pos m) (negsuc n) e f g h = absurd (clash _ (sub-fits (2 ^ 63) m (suc n) f g) h)
 past-sum t (negsuc m) (pos n) e f g h = absurd (clash _ (sub-fits (2 ^ 63) n (suc m) g f) h)
 past-sum t (negsuc m) (negsuc n) e f g h = sym (below-all t (2 ^ 63) (suc (m + n)) e (ltb-false _ _ h))
+
+not-above : (t : ℤ) (k n : ℕ) → mag t < k → k ≤ n → ltZ (pos n) t ≡ false
+not-above (pos m) k n f h = le-ltb n m (le-of-lt (lt-of-lt-of-le f h))
+not-above (negsuc m) k n f h = refl
+
+not-below : (t : ℤ) (k n : ℕ) → mag t < k → k ≤ n → ltZ (negsuc n) t ≡ true
+not-below (pos m) k n f h = refl
+not-below (negsuc m) k n f h = lt-ltb m n (lt-of-lt-of-le f h)
+
+pub sum-past : (t a b : ℤ) → mag t < 2 ^ 63 → mag a < 2 ^ 63 → mag b < 2 ^ 63 → sumFits a b ≡ false → ltZ a (pos 0) ≡ ltZ (a +ℤ b) t
+unfolding sumFits
+sum-past t (pos m) (pos n) e f g h = le-ltb m 0 zero-le ∙ sym (not-above t (2 ^ 63) (m + n) e (ltb-false _ _ h))
+sum-past t (pos m) (negsuc n) e f g h = absurd (clash _ (sub-fits (2 ^ 63) m (suc n) f g) h)
+sum-past t (negsuc m) (pos n) e f g h = absurd (clash _ (sub-fits (2 ^ 63) n (suc m) g f) h)
+sum-past t (negsuc m) (negsuc n) e f g h = sym (not-below t (2 ^ 63) (suc (m + n)) e (ltb-false _ _ h))

@@ -54,3 +54,14 @@ pub fn before_sum(now: i64, a: i64, b: i64) -> bool
     }
     0 <= a
 }
+
+// Whether a + b is before t, likewise.
+pub fn sum_before(a: i64, b: i64, t: i64) -> bool
+    ensures { λ r. ⌜ r ≡ ltZ (a +ℤ b) t ⌝ }
+{
+    if sum_fits(a, b) {
+        let end = a + b;
+        return end < t;
+    }
+    a < 0
+}

@@ -1,5 +1,5 @@
 -- Laws of lists of checks. Assumes nothing.
-use mathlib.Core.Path.{_≡_, refl}
+use mathlib.Core.Path.{_≡_, refl, sym, _∙_}
 use mathlib.Core.Bool.{Bool, true, false}
 use Prim.Native.Nat.{ℕ, zero, suc}
 use native.Mathlib.Omega.{arith}
@@ -26,3 +26,24 @@ pub unless-zero : (t : Bool) (n : ℕ) → unless t (suc n) ≡ 0 → t ≡ true
 unfolding unless
 unless-zero true n h = refl
 unless-zero false n h = absurd (omega arith)
+
+-- a list that passes passes in its first check, and after it
+pub check-zero : (t : Bool) (n rest : ℕ) → (unless t (suc n) then rest) ≡ 0 → (t ≡ true) × (rest ≡ 0)
+check-zero t n rest h = let e = then-zero (unless t (suc n)) rest h in (unless-zero t n (e .0), e .1)
+
+-- the other way round
+pub then-both : (m n : ℕ) → m ≡ 0 → n ≡ 0 → (m then n) ≡ 0
+then-both m n h e = sym (then-pass m n h) ∙ e
+
+pub unless-pass : (t : Bool) (n : ℕ) → t ≡ true → unless t n ≡ 0
+unfolding unless
+unless-pass t n h = rw h
+
+pub check-pass : (t : Bool) (n rest : ℕ) → t ≡ true → rest ≡ 0 → (unless t n then rest) ≡ 0
+check-pass t n rest h e = then-both (unless t n) rest (unless-pass t n h) e
+
+-- checks in stages
+pub then-assoc : (a b c : ℕ) → ((a then b) then c) ≡ (a then b then c)
+unfolding _then_
+then-assoc zero b c = refl
+then-assoc (suc a) b c = rw (eqb·suc-zero a, eqb·suc-zero a)

@@ -4,9 +4,12 @@ pub mod Sums
 pub mod Widths
 pub mod Search
 pub mod Lists
+pub mod Kept
 pub mod Sort
 pub mod Lex
 pub mod Rank
 pub mod Ranked
 pub mod Checks
 pub mod Bits
+pub mod Members
+pub mod Only

@@ -2,7 +2,7 @@
 use mathlib.Core.Path.{_≡_, refl, sym, ap, ap₂, _∙_, subst}
 use mathlib.Core.Logic.{_≢_, _↔_, inl, inr, ⊎-elim}
 use mathlib.Core.Bool.{Bool, true, false, cond, _&&_}
-use mathlib.Core.List.{List, [], _∷_}
+use mathlib.Core.List.{List, [], _∷_, map}
 use Prim.Native.Nat.{ℕ, zero, suc, _+_, _≤_, _<_, zero-le}
 use native.Mathlib.Nat.{le-of-suc-le-suc, lt-of-lt-of-le, ne-of-lt}
 use native.Mathlib.Numerals.{add-one}
@@ -10,11 +10,11 @@ use native.Mathlib.Omega.{arith}
 use borrow.Author.Count.{below-more}
 use borrow.Author.Tests.{eqb-true, eq-eqb, ne-eqb}
 use lib.Dec.{eqb}
-use lib.ListN.{length, getD, set, drop, length-set, drop-of-length-le}
+use lib.ListN.{length, getD, set, drop, replicate, length-set, length-map, length-replicate, getD-replicate, drop-of-length-le, List·getD-eq-default}
 use lib.Seq.{ext-getD, getD-set-same, getD-set-other, drop-cons}
-use Rattle.laws.specs.Sums.{sumBelow, sumOf}
+use Rattle.laws.specs.Sums.{sumBelow, sumOf, sumOver}
 use Rattle.laws.specs.Lists.{table, keep, Member, same}
-use Rattle.laws.proofs.Tests.{both, clash}
+use Rattle.laws.proofs.Tests.{both, clash, lt-or-le}
 use Rattle.laws.proofs.Sums.{sum-same}
 
 pub length-table : {A : Type 0} (f : ℕ → A) (n : ℕ) → length (table f n) ≡ n
@@ -27,6 +27,12 @@ unfolding table
 getD-table f zero k d h = absurd (omega (arith, h))
 getD-table f (suc n) zero d h = refl
 getD-table f (suc n) (suc k) d h = getD-table (λ i. f (suc i)) n k d (le-of-suc-le-suc h)
+
+-- tables with the same entries
+pub table-same : {A : Type 0} (f g : ℕ → A) (n : ℕ) → ((i : ℕ) → i < n → f i ≡ g i) → table f n ≡ table g n
+unfolding table
+table-same f g zero h = refl
+table-same f g (suc n) h = ap₂ _∷_ (h 0 (omega arith)) (table-same (λ i. f (suc i)) (λ i. g (suc i)) n (λ i l. h (suc i) (omega arith)))
 
 -- a list is the table of its places
 pub is-table : {A : Type 0} (f : ℕ → A) (n : ℕ) (d : A) (l : List A) → length l ≡ n → ((k : ℕ) → k < n → getD l k d ≡ f k) → l ≡ table f n
@@ -49,6 +55,41 @@ pub table-member : (P : ℕ → Type 0) (f : ℕ → ℕ) (n : ℕ) → ((i : �
 unfolding table
 table-member P f zero h x m = absurd m
 table-member P f (suc n) h x m = ⊎-elim (λ (e : x ≡ f 0). rw e (h 0)) (λ k. table-member P (λ i. f (suc i)) n (λ i. h (suc i)) x k) m
+
+pub table-place : (f : ℕ → ℕ) (n x : ℕ) → Member x (table f n) → (i : ℕ) × (i < n) × (x ≡ f i)
+unfolding table
+table-place f zero x m = absurd m
+table-place f (suc n) x m =
+    ⊎-elim (λ (e : x ≡ f 0). (0, omega arith, e)) (λ k. let r = table-place (λ i. f (suc i)) n x k in (suc (r .0), omega (arith, r .1), r .2)) m
+
+-- what stands in a list at a place
+pub getD-member : (l : List ℕ) (k : ℕ) → k < length l → Member (getD l k 0) l
+getD-member [] k h = absurd (omega (arith, h))
+getD-member (x ∷ l) zero h = inl refl
+getD-member (x ∷ l) (suc k) h = inr (getD-member l k (le-of-suc-le-suc h))
+
+-- zeros stand in a list of zeros, and past its end
+pub getD-nothing : (n i : ℕ) → getD {A = ℕ} (replicate n 0) i 0 ≡ 0
+getD-nothing n i =
+    ⊎-elim (λ (h : i < n). getD-replicate n i 0 0 h) (λ (h : n ≤ i). List·getD-eq-default (replicate n 0) 0 {n = i} (omega (arith, length-replicate {A = ℕ} n 0))) (lt-or-le i n)
+
+-- a list mapped: at a place, added up, and what stands in it
+pub getD-map : {A B : Type 0} (f : A → B) (l : List A) (k : ℕ) (d : A) (e : B) → k < length l → getD (map f l) k e ≡ f (getD l k d)
+getD-map f [] k d e h = absurd (omega (arith, h))
+getD-map f (x ∷ l) zero d e h = refl
+getD-map f (x ∷ l) (suc k) d e h = getD-map f l k d e (le-of-suc-le-suc h)
+
+pub sum-map : {A : Type 0} (f : A → ℕ) (d : A) (l : List A) → sumOf (map f l) ≡ sumOver f d l (length l)
+unfolding sumOf sumOver
+sum-map f d l = rw (length-map l f) (sum-same (λ k. getD (map f l) k 0) (λ k. f (getD l k d)) (length l) (λ k h. getD-map f l k d 0 h))
+
+pub map-members : (f : ℕ → ℕ) (x : ℕ) (l : List ℕ) → Member x (map f l) ↔ ((i : ℕ) × Member i l × (x ≡ f i))
+map-members f x [] = (absurd, λ h. h .1)
+map-members f x (y ∷ l) =
+    let ih = map-members f x l in (
+      λ m. ⊎-elim (λ (e : x ≡ f y). (y, inl refl, e)) (λ k. let r = ih .0 k in (r .0, inr (r .1), r .2)) m,
+      λ h. ⊎-elim (λ (e : h .0 ≡ y). inl (h .2 ∙ ap f e)) (λ k. inr (ih .1 (h .0, k, h .2))) (h .1),
+    )
 
 -- a loop that writes a table: its first i places hold what f says
 pub record Writing {A : Type 0} (f : ℕ → A) (d : A) (n i : ℕ) (out : List A) : Type 0 where

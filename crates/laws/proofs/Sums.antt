@@ -2,7 +2,7 @@
 use mathlib.Core.Path.{_≡_, refl, sym, _∙_, ap, ap₂}
 use mathlib.Core.Logic.{_≢_, ⊎-elim}
 use mathlib.Core.Bool.{Bool, true, false}
-use mathlib.Core.List.{List}
+use mathlib.Core.List.{List, _∷_}
 use Prim.Native.Nat.{ℕ, zero, suc, _+_, _*_, _≤_, _<_, zero-le}
 use native.Mathlib.Nat.{le-refl, le-step, le-antisymm, suc-mul, eq-or-lt-of-le, le-of-suc-le-suc, eq-zero-or-pos}
 use native.Mathlib.Decide.{ℕ-discrete}
@@ -55,6 +55,15 @@ unfolding sumBelow
 sum-add f g zero = refl
 sum-add f g (suc n) = omega (arith, sum-add f g n)
 
+-- further terms that are 0
+pub sum-cut : (f : ℕ → ℕ) (m n : ℕ) → m ≤ n → ((i : ℕ) → m ≤ i → i < n → f i ≡ 0) → sumBelow f n ≡ sumBelow f m
+unfolding sumBelow
+sum-cut f m zero l h = let e : zero ≡ m = omega arith in ap (sumBelow f) e
+sum-cut f m (suc n) l h =
+    ⊎-elim (λ (e : m ≡ suc n). ap (sumBelow f) (sym e))
+    (λ (k : m < suc n). omega (arith, sum-cut f m n (le-of-suc-le-suc k) (λ i a b. h i a (le-step b)), h n (le-of-suc-le-suc k) (le-refl (suc n))))
+    (eq-or-lt-of-le l)
+
 -- a term is at most the sum, and a sum of larger terms is larger
 pub sum-ge : (f : ℕ → ℕ) (n i : ℕ) → i < n → f i ≤ sumBelow f n
 unfolding sumBelow
@@ -90,6 +99,11 @@ sum-at f g (suc n) i l e = go (ℕ-discrete i n) (λ k. sum-at f g n i k (λ j m
     go (yes p) _ = omega (arith, ap f p, ap g p, sum-same f g n (λ j k. e j (omega arith) (omega arith)))
     go (no q) ih = omega (arith, e n (omega arith) (omega arith), ih (omega arith))
 
+-- a list that is added up, the first apart
+pub over-cons : {A : Type 0} (f : A → ℕ) (d x : A) (l : List A) (n : ℕ) → sumOver f d (x ∷ l) (suc n) ≡ f x + sumOver f d l n
+unfolding sumOver
+over-cons f d x l n = sum-head (λ i. f (getD (x ∷ l) i d)) n
+
 -- stores to a list that is added up: below the count, at or past it, at the count itself
 module _ {A : Type 0} (f : A → ℕ) (d : A) where
   pub over-set : (l : List A) (n i : ℕ) (a : A) → i < n → i < length l → sumOver f d (set l i a) n + f (getD l i d) ≡ sumOver f d l n + f a
@@ -109,6 +123,15 @@ module _ {A : Type 0} (f : A → ℕ) (d : A) where
   unfolding sumOver sumBelow
   over-push l n a h =
       ap₂ _+_ (sum-same (λ j. f (getD (set l n a) j d)) (λ j. f (getD l j d)) n (λ j k. ap f (getD-set-other l n j a d (omega arith)))) (ap f (getD-set-same l n a d h))
+
+-- a number where a test holds
+pub only-none : (b : Bool) → only b 0 ≡ 0
+only-none true = refl
+only-none false = refl
+
+pub only-within : (b : Bool) (n : ℕ) → only b n ≤ n
+only-within true n = le-refl n
+only-within false n = zero-le
 
 -- counts
 pub only-le : (a b : Bool) → (a ≡ true → b ≡ true) → only a 1 ≤ only b 1
@@ -160,3 +183,31 @@ unfolding sumBelow count
 some-above f zero h = absurd (omega arith)
 some-above f (suc k) h =
     ⊎-elim (λ (e : f k ≡ 0). omega (arith, some-above f k (omega arith))) (λ (p : 0 < f k). omega (arith, ap (λ (b : Bool). only b 1) (lt-ltb 0 (f k) p))) (eq-zero-or-pos (f k))
+
+pub term-above : (f : ℕ → ℕ) (n : ℕ) → 0 < sumBelow f n → (i : ℕ) × (i < n) × (0 < f i)
+unfolding sumBelow
+term-above f zero h = absurd (omega arith)
+term-above f (suc n) h = go (f n) refl (term-above f n)
+  where
+    go : (x : ℕ) → f n ≡ x → (0 < sumBelow f n → (i : ℕ) × (i < n) × (0 < f i)) → (i : ℕ) × (i < suc n) × (0 < f i)
+    go zero e ih = let r = ih (omega arith) in (r .0, le-step (r .1), r .2)
+    go (suc x) e ih = (n, le-refl (suc n), omega arith)
+
+-- a loop that counts: r of the first i places pass
+pub record Counting (p : ℕ → Bool) (i r : ℕ) : Type 0 where
+  pub is : r ≡ sumBelow (λ k. only (p k) 1) i
+  pub small : r ≤ i
+
+module _ {p : ℕ → Bool} where
+  pub counting : Counting p 0 0
+  unfolding sumBelow
+  counting = record { is = refl; small = zero-le }
+
+  pub counting-more : {i r : ℕ} (b : Bool) (u : ℕ) → Counting p i r → b ≡ p i → u ≡ only b 1 → Counting p (i + 1) (r + u)
+  counting-more {i} {r} b u s e f =
+      let g : u ≡ only (p i) 1 = f ∙ ap (λ (x : Bool). only x 1) e in
+      record { is = sum-step (λ k. only (p k) 1) i r u (r + u) refl (s .is) g; small = omega (arith, s .small, only-one (p i)) }
+
+  pub counted : {i r : ℕ} {n : ℕ} → Counting p i r → i ≤ n → n ≤ i → r ≡ count p n
+  unfolding count
+  counted {i} {r} {n} s h g = sum-end (λ k. only (p k) 1) i n r (s .is) h g

@@ -1,0 +1,6 @@
+-- What orders and fills are, and the clearing of a book.
+pub mod Limits
+pub mod Book
+pub mod Clear
+pub mod Columns
+pub mod Claims
