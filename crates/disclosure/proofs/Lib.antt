@@ -1,0 +1,3 @@
+-- Laws of bands, and the worked examples.
+pub mod Parts
+pub mod Examples

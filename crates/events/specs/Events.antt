@@ -1,0 +1,29 @@
+-- A call's events are a list; the struct holds it from its first place on.
+use mathlib.Core.Bool.{Bool, true, false, cond}
+use mathlib.Core.List.{List, [], _∷_, _++_, map}
+use Prim.Native.Nat.{ℕ, _+_, _-_}
+use lib.Dec.{ltb}
+use lib.ListN.{length, set, replicate}
+use Rattle.book.specs.Limits.{maxFills}
+use Rattle.events.specs.declared.Event.{Event}
+use Rattle.events.specs.declared.Event.the-variants.{Nothing}
+use Rattle.events.specs.declared.Line.{Line}
+use Rattle.events.specs.declared.Events.{Events}
+
+-- the most events of one call: every fill, and the change of phase
+abbrev pub maxEvents : ℕ
+maxEvents = maxFills + 1
+
+abbrev pub lineOf : Event → Line
+lineOf e = record { event = e }
+
+abbrev pub blank : Line
+blank = lineOf Nothing
+
+-- the struct that holds a list of at most maxEvents events; no struct of that type holds a longer one
+unfoldable pub packed : List Event → Events
+packed l = record { lines = map lineOf l ++ replicate (maxEvents - length l) blank; count = length l }
+
+-- one event more, where there is room
+unfoldable pub pushed : Events → Event → Events
+pushed es e = cond (ltb (es .count) maxEvents) (record { lines = set (es .lines) (es .count) (lineOf e); count = es .count + 1 }) es

@@ -1,0 +1,2 @@
+-- The events of a call.
+pub mod Events

@@ -1,0 +1,99 @@
+// The events of a call, in the source's names and order.
+ghost use mathlib.Core.Path.{_≡_};
+ghost use mathlib.Core.List.{[]};
+ghost use Rattle.events.specs.Events.{packed, pushed};
+
+// The most events of one call: every fill, and the change of phase.
+pub const MAX_EVENTS: usize = book::MAX_FILLS + 1;
+
+pub struct Print {
+    pub price: u64,
+    pub volume: u64,
+    pub n_investor_ids: u64,
+    pub forced_sale: bool,
+    pub policy: u8,
+    pub partial: bool,
+}
+
+pub enum Event {
+    // An unused place.
+    Nothing,
+    OrderScreened {
+        order: u8,
+        exclusion: u8,
+    },
+    Cleared {
+        price: u64,
+        volume: u64,
+        reserve: u64,
+        reference: u64,
+    },
+    SessionFailed(u8),
+    FillAllocated {
+        fill: u32,
+        buy: u8,
+        sell: u8,
+        qty: u64,
+    },
+    RofrExercised {
+        fill: u32,
+        new: u32,
+        qty: u64,
+        price: u64,
+    },
+    RofrClosed(u64),
+    FillSettled {
+        fill: u32,
+        qty: u64,
+        price: u64,
+    },
+    FillSkipped {
+        fill: u32,
+        qty: u64,
+        reason: u8,
+    },
+    ClearingPrint(Print),
+    PhaseChanged {
+        from: u8,
+        to: u8,
+    },
+}
+
+// One event: an array holds no enums.
+pub struct Line {
+    pub event: Event,
+}
+
+pub struct Events {
+    pub lines: [Line; MAX_EVENTS],
+    pub count: usize,
+}
+
+impl Events {
+    pub fn none() -> Self
+        ensures { λ r. ⌜ r ≡ packed [] ⌝ }
+    {
+        let blank = Line {
+            event: Event::Nothing,
+        };
+        Events {
+            lines: [blank; MAX_EVENTS],
+            count: 0,
+        }
+    }
+
+    // One more, where there is room.
+    pub fn push(self, e: Event) -> Self
+        ensures { λ r. ⌜ r ≡ pushed self e ⌝ }
+    {
+        let at = self.count;
+        if at < MAX_EVENTS {
+            let line = Line { event: e };
+            let mut more = self;
+            more.lines[at] = line;
+            more.count = at + 1;
+            return more;
+        }
+        self
+    }
+}
