@@ -1,8 +1,8 @@
 -- The bits of a word with one more bit set, and that its bits say the word. Assumes nothing.
 use mathlib.Core.Path.{_≡_, refl, sym, ap, _∙_}
-use mathlib.Core.Logic.{_≢_}
+use mathlib.Core.Logic.{_≢_, ⊎-elim}
 use Prim.Native.Nat.{ℕ, zero, suc, _+_, _-_, _*_, _/_, _%_, _^_, _≤_, _<_, max}
-use native.Mathlib.Nat.{div-eq-of-lt, div-self, zero-div, div-one}
+use native.Mathlib.Nat.{div-eq-of-lt, div-self, zero-div, div-one, lt-trans, eq-or-lt-of-le}
 use native.Mathlib.Decide.{decLt}
 use native.Mathlib.Omega.{arith}
 use lib.Arith.{bin-ind}
@@ -51,3 +51,8 @@ bits-ext =
     (λ n e. sym (bin-ind (λ n. ((i : ℕ) → bit n i ≡ 0) → n ≡ 0) (λ _. refl)
     (λ n ih h. omega (arith, ih (λ i. bit-half n i ∙ h (suc i)), sym (bit-low n) ∙ h 0)) n (λ i. sym (e i) ∙ bit-zero i)))
     (λ m ih n e. omega (arith, ih (n / 2) (λ i. bit-half m i ∙ e (suc i) ∙ sym (bit-half n i)), bit-low m, bit-low n, e 0))
+
+-- a word of k bits has no bit from k on
+pub bit-past : (word k i : ℕ) → word < 2 ^ k → k ≤ i → bit word i ≡ 0
+unfolding bit
+bit-past word k i h l = rw (div-eq-of-lt (⊎-elim (λ (e : k ≡ i). rw e at h) (λ (g : k < i). lt-trans h (pow-lt g)) (eq-or-lt-of-le l)))

@@ -1,8 +1,8 @@
 -- Laws of searches and tests below a count. Assumes nothing.
-use mathlib.Core.Path.{_≡_, refl, sym, ap, _∙_}
+use mathlib.Core.Path.{_≡_, refl, sym, ap, ap₂, _∙_}
 use mathlib.Core.Bool.{Bool, true, false, cond, _&&_, _||_}
 use Prim.Native.Nat.{ℕ, zero, suc, _+_, _≤_, _<_}
-use native.Mathlib.Nat.{le-refl, not-suc-le-zero, le-antisymm}
+use native.Mathlib.Nat.{le-refl, le-step, not-suc-le-zero, le-antisymm}
 use native.Mathlib.Decide.{ℕ-discrete}
 use native.Mathlib.Numerals.{add-one}
 use native.Mathlib.Omega.{arith}
@@ -45,7 +45,7 @@ first-below p (suc n) j l = go (ltb (first p n) n) (p n) refl refl (first-below 
     go false false e q ih (yes w) l = ap p w ∙ q
     go false false e q ih (no w) l = ih (omega (arith, ltb-false (first p n) n e))
 
--- a loop that searches: nothing found below i, one place more, and found at i
+-- a loop that searches: nothing found below i, one place more, found at i, and the end
 pub first-start : (p : ℕ → Bool) → first p 0 ≡ 0
 unfolding first
 first-start p = refl
@@ -62,6 +62,9 @@ first-found p i (suc n) e t l = go (ℕ-discrete i n) (first-found p i n e t)
     go : Dec (i ≡ n) → (i < n → first p n ≡ i) → cond (ltb (first p n) n) (first p n) (cond (p n) n (suc n)) ≡ i
     go (yes q) _ = rw (← q, e, le-ltb i i (le-refl i), t)
     go (no q) ih = let h : first p n ≡ i = ih (omega arith) in rw (h, lt-ltb i n (omega arith))
+
+pub first-end : (p : ℕ → Bool) (n i : ℕ) → first p i ≡ i → i ≤ n → n ≤ i → n ≡ first p n
+first-end p n i e l k = let q : i ≡ n = le-antisymm l k in sym (ap (first p) (sym q) ∙ e ∙ q)
 
 pub every-all : (p : ℕ → Bool) (n : ℕ) → ((i : ℕ) → i < n → p i ≡ true) → every p n ≡ true
 unfolding every
@@ -117,3 +120,9 @@ some-at p (suc n) i l e = go (ℕ-discrete i n) (some p n) refl (λ m. some-at p
 
 pub some-end : (p : ℕ → Bool) (n i : ℕ) → some p i ≡ false → i ≤ n → n ≤ i → false ≡ some p n
 some-end p n i e l k = sym e ∙ ap (some p) (le-antisymm l k)
+
+-- tests that agree below n
+pub some-same : (p q : ℕ → Bool) (n : ℕ) → ((i : ℕ) → i < n → p i ≡ q i) → some p n ≡ some q n
+unfolding some
+some-same p q zero h = refl
+some-same p q (suc n) h = ap₂ _||_ (some-same p q n (λ i l. h i (le-step l))) (h n (le-refl (suc n)))

@@ -1,12 +1,14 @@
 -- Laws of tests. Assumes nothing.
-use mathlib.Core.Path.{_≡_, refl, sym, _∙_, subst}
+use mathlib.Core.Path.{_≡_, refl, sym, _∙_, ap, subst}
 use mathlib.Core.Logic.{_⊎_, inl, inr, ⊎-elim}
 use mathlib.Core.Bool.{Bool, true, false, not, _&&_, _||_}
 use Prim.Native.Nat.{ℕ, zero, suc, _≤_, _<_}
 use native.Mathlib.Nat.{lt-of-not-le}
 use native.Mathlib.Decide.{decLt}
 use native.Mathlib.Omega.{arith}
-use lib.Dec.{T, ltb, eqb}
+use lib.Dec.{T, ltb, leb, eqb}
+use lib.IntN.{ℤ, pos, negsuc}
+use lib.Signed.{ltZ, leZ}
 use borrow.Author.Tests.{le-ltb, lt-ltb, le-leb, lt-leb, eq-eqb, ne-eqb}
 
 -- what a comparison comes to, from the fact that decides it
@@ -43,3 +45,13 @@ ltb-same {a} {b} {c} {d} f g = ⊎-elim (λ h. lt-ltb a b h ∙ sym (lt-ltb c d 
 pub above-zero : (n : ℕ) → ltb 0 n ≡ not (eqb n 0)
 above-zero zero = refl
 above-zero (suc n) = rw (lt-ltb 0 (suc n) (omega arith), ne-eqb (suc n) 0 (omega arith))
+
+-- at most is not above, for numbers without a sign and with one
+pub leb-not : (a b : ℕ) → leb b a ≡ not (ltb a b)
+leb-not a b = ⊎-elim (λ (h : a < b). lt-leb b a h ∙ sym (ap not (lt-ltb a b h))) (λ (h : b ≤ a). le-leb b a h ∙ sym (ap not (le-ltb a b h))) (lt-or-le a b)
+
+pub leZ-not : (a b : ℤ) → leZ b a ≡ not (ltZ a b)
+leZ-not (pos a) (pos b) = leb-not a b
+leZ-not (pos a) (negsuc b) = refl
+leZ-not (negsuc a) (pos b) = refl
+leZ-not (negsuc a) (negsuc b) = leb-not b a

@@ -1,11 +1,11 @@
 -- Sums of numbers of k bits, for every k: they stay small, so a sum that is kept modulo m is the sum itself. Assumes nothing.
-use mathlib.Core.Path.{_≡_, refl, sym, _∙_, ap, subst}
+use mathlib.Core.Path.{_≡_, sym, _∙_, ap, subst}
 use Prim.Native.Nat.{ℕ, zero, suc, _+_, _*_, _%_, _^_, _≤_, _<_}
-use native.Mathlib.Nat.{mul-le-mul-right, suc-mul, mod-eq-of-lt, lt-of-lt-of-le, le-of-lt, le-refl}
+use native.Mathlib.Nat.{mul-le-mul-right, suc-mul, mod-eq-of-lt, lt-of-lt-of-le, le-of-lt, le-refl, le-antisymm}
 use native.Mathlib.Numerals.{add-one}
 use native.Mathlib.Omega.{arith}
 use Rattle.laws.specs.Sums.{sumBelow}
-use Rattle.laws.proofs.Sums.{sum-none, sum-suc, sum-step, sum-le}
+use Rattle.laws.proofs.Sums.{sum-none, sum-suc, sum-more, sum-step, sum-le}
 
 -- v is at most what i numbers of k bits come to
 unfoldable pub AtMost : (k i v : ℕ) → Type 0
@@ -15,6 +15,10 @@ module _ (k : ℕ) where
   pub none-at-most : (v : ℕ) → v ≡ 0 → AtMost k 0 v
   unfolding AtMost
   none-at-most v e = omega (arith, e)
+
+  pub one-at-most : (v x : ℕ) → v ≡ x → x < 2 ^ k → AtMost k 1 v
+  unfolding AtMost
+  one-at-most v x e h = omega (arith, e)
 
   pub one-more : (i v x : ℕ) → AtMost k i v → x < 2 ^ k → AtMost k (i + 1) (v + x)
   unfolding AtMost
@@ -51,3 +55,23 @@ module _ {k : ℕ} {f : ℕ → ℕ} where
   pub summing-mod : (m n : ℕ) → n * 2 ^ k ≤ m → {i v : ℕ} (x v′ : ℕ) → Summing k f i v → i < n → x ≡ f i → x < 2 ^ k → v′ ≡ (v + x) % m → Summing k f (i + 1) v′
   summing-mod m n fits {i} {v} x v′ s l e h a =
       summing-more x v′ s e h (a ∙ mod-eq-of-lt (lt-of-lt-of-le (below k i v x n (s .short) h l) fits))
+
+-- v is the sum of s and the first i of the numbers f, all of k bits
+pub record SummingFrom (k s : ℕ) (f : ℕ → ℕ) (i v : ℕ) : Type 0 where
+  pub is : v ≡ s + sumBelow f i
+  pub short : AtMost k (i + 1) v
+
+module _ {k s : ℕ} {f : ℕ → ℕ} where
+  pub summing-from : {v : ℕ} → v ≡ s → s < 2 ^ k → SummingFrom k s f 0 v
+  summing-from {v} e h = record { is = omega (arith, e, sum-none f); short = one-at-most k v s e h }
+
+  pub summing-from-mod : (m n : ℕ) → (n + 1) * 2 ^ k ≤ m → {i v : ℕ} (x v′ : ℕ) → SummingFrom k s f i v → i < n → x ≡ f i → x < 2 ^ k → v′ ≡ (v + x) % m → SummingFrom k s f (i + 1) v′
+  summing-from-mod m n fits {i} {v} x v′ t l e h a =
+      let b : v′ ≡ v + x = a ∙ mod-eq-of-lt (lt-of-lt-of-le (below k (i + 1) v x (n + 1) (t .short) h (omega arith)) fits) in
+      record {
+        is = omega (arith, b, e, t .is, sum-more f i);
+        short = subst (λ (w : ℕ). AtMost k (i + 1 + 1) w) (sym b) (one-more k (i + 1) v x (t .short) h);
+      }
+
+  pub summed-from : {i v : ℕ} (n : ℕ) → SummingFrom k s f i v → i ≤ n → n ≤ i → v ≡ s + sumBelow f n
+  summed-from {i} {v} n t l h = t .is ∙ ap (λ (m : ℕ). s + sumBelow f m) (le-antisymm l h)

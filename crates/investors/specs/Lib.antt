@@ -1,0 +1,4 @@
+-- Investors behind orders.
+pub mod Exclusion
+pub mod Participants
+pub mod Places

@@ -1,0 +1,144 @@
+// `investor_exclusion`: the checks of an order against the other live orders of its investor.
+ghost use mathlib.Core.Path.{_≡_};
+ghost use mathlib.Core.Bool.{Bool, true, false, cond, not, _&&_};
+ghost use Prim.Native.Nat.{ℕ, _+_, _<_, _≤_, min};
+ghost use lib.Dec.{ltb, leb, eqb};
+ghost use Rattle.laws.specs.Sums.{sumBelow, only};
+ghost use Rattle.laws.specs.Lists.{same};
+ghost use Rattle.wide.specs.Value.{value};
+ghost use Rattle.credit_math.specs.Limits.{maxOrders};
+ghost use Rattle.book.specs.Book.{orderIn, isLive, isBuy, noInvestor};
+ghost use Rattle.investors.specs.Exclusion.{isOther, selfTrade, cashOf, investorExclusion};
+use book::Order;
+use credit_math::MAX_ORDERS;
+use wide::Wide;
+
+pub const SELF_TRADE: u8 = 7;
+
+pub const INVESTOR_CAP_EXCEEDED: u8 = 8;
+
+// The exclusion of order `index`, whose investor is `id`; 0 where there is none. A count above the limit is read as the limit.
+pub fn investor_exclusion(
+    orders: [Order; MAX_ORDERS],
+    order_count: usize,
+    index: usize,
+    id: [u8; 16],
+    max_cash: u64,
+) -> u8
+    ensures { λ r. ⌜ r ≡ investorExclusion orders «order_count» index id «max_cash» ⌝ }
+{
+    let n = at_most_all(order_count);
+    let side = side_of(orders, index);
+    if trades_itself(orders, n, index, id, side) {
+        return SELF_TRADE;
+    }
+    if side != 0 {
+        return 0;
+    }
+    let cash = cash_of(orders, n, index, id);
+    if wide::less(wide::of_word(max_cash), cash) {
+        return INVESTOR_CAP_EXCEEDED;
+    }
+    0
+}
+
+fn at_most_all(n: usize) -> usize
+    ensures { λ r. ⌜ r ≡ min n maxOrders ⌝ }
+{
+    if n < MAX_ORDERS { n } else { MAX_ORDERS }
+}
+
+fn side_of(orders: [Order; MAX_ORDERS], i: usize) -> u8
+    ensures { λ r. ⌜ r ≡ orderIn orders i .side ⌝ }
+{
+    if i < MAX_ORDERS {
+        let o = orders[i];
+        return o.side;
+    }
+    0
+}
+
+fn escrow_of(orders: [Order; MAX_ORDERS], i: usize) -> u64
+    ensures { λ r. ⌜ r ≡ orderIn orders i .escrowed ⌝ }
+{
+    if i < MAX_ORDERS {
+        let o = orders[i];
+        return o.escrowed;
+    }
+    0
+}
+
+// Whether the investor stands on the other side too.
+fn trades_itself(
+    orders: [Order; MAX_ORDERS],
+    n: usize,
+    index: usize,
+    id: [u8; 16],
+    side: u8,
+) -> bool
+    requires { ⌜ (n ≤ maxOrders) × (side ≡ orderIn orders index .side) ⌝ }
+    ensures { λ r. ⌜ r ≡ selfTrade orders n index id ⌝ }
+{
+    let mut j = 0;
+    while j < n {
+        let o = orders[j];
+        if opposes(o, j, index, id, side) {
+            return true;
+        }
+        j += 1;
+    }
+    false
+}
+
+fn opposes(o: Order, j: usize, index: usize, id: [u8; 16], side: u8) -> bool
+    ensures { λ r. ⌜ r ≡ (not (eqb j index) && isLive o && not (same (o .«investor_id») noInvestor) && same (o .«investor_id») id) && not (eqb (o .side) side) ⌝ }
+{
+    if is_other(o, j, index, id) {
+        return o.side != side;
+    }
+    false
+}
+
+// Whether o, order j, is another live order of the investor.
+fn is_other(o: Order, j: usize, index: usize, id: [u8; 16]) -> bool
+    ensures { λ r. ⌜ r ≡ not (eqb j index) && isLive o && not (same (o .«investor_id») noInvestor) && same (o .«investor_id») id ⌝ }
+{
+    let own = o.investor_id;
+    if j == index {
+        return false;
+    }
+    if o.is_live() {
+        if book::same_id(own, [0; 16]) {
+            return false;
+        }
+        return book::same_id(own, id);
+    }
+    false
+}
+
+// The escrow of the order itself and of the investor's other buys.
+fn cash_of(orders: [Order; MAX_ORDERS], n: usize, index: usize, id: [u8; 16]) -> Wide
+    requires { ⌜ n ≤ maxOrders ⌝ }
+    ensures { λ r. ⌜ value r ≡ cashOf orders n index id ⌝ }
+{
+    let mut sum = wide::of_word(escrow_of(orders, index));
+    let mut j = 0;
+    while j < n {
+        let o = orders[j];
+        sum = wide::add(sum, cash_in(o, j, index, id));
+        j += 1;
+    }
+    sum
+}
+
+fn cash_in(o: Order, j: usize, index: usize, id: [u8; 16]) -> u64
+    ensures { λ r. ⌜ r ≡ only ((not (eqb j index) && isLive o && not (same (o .«investor_id») noInvestor) && same (o .«investor_id») id) && isBuy o) (o .escrowed) ⌝ }
+{
+    if is_other(o, j, index, id) {
+        if o.side == 0 {
+            return o.escrowed;
+        }
+        return 0;
+    }
+    0
+}

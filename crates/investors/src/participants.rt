@@ -1,0 +1,245 @@
+// `distinct_participants`: who traded, for the print.
+ghost use mathlib.Core.Path.{_≡_};
+ghost use mathlib.Core.Bool.{Bool, true, false, cond, not, _&&_};
+ghost use Prim.Native.Nat.{ℕ, _+_, _*_, _/_, _%_, _<_, _≤_, min};
+ghost use lib.Dec.{ltb, leb, eqb};
+ghost use Rattle.laws.specs.Sums.{count};
+ghost use Rattle.laws.specs.Search.{some};
+ghost use Rattle.laws.specs.Bits.{isSet};
+ghost use Rattle.credit_math.specs.Limits.{maxOrders};
+ghost use Rattle.book.specs.Limits.{maxFills};
+ghost use Rattle.investors.specs.Participants.{firstOrder, distinctParticipants};
+ghost use Rattle.investors.specs.Places.{partyOf, sameParty, walletAt, placeIn, standsAt, isNew, Placed};
+use book::Fill;
+use book::MAX_FILLS;
+use book::Order;
+use credit_math::MAX_ORDERS;
+
+// Two places for each fill.
+const MAX_PLACES: usize = 2 * MAX_FILLS;
+
+// A participant: its investor id where `known`, else its wallet.
+pub struct Party {
+    pub known: bool,
+    pub id: [u8; 16],
+    pub wallet: [u8; 32],
+}
+
+// A place of a fill: whether the fill moved, and who stands there.
+pub struct Place {
+    pub moved: bool,
+    pub who: Party,
+}
+
+// Distinct participants over the fills that moved. A count above its limit is read as the limit.
+pub fn distinct_participants(
+    orders: [Order; MAX_ORDERS],
+    order_count: usize,
+    fills: [Fill; MAX_FILLS],
+    fill_count: usize,
+    skipped: u32,
+) -> u64
+    ensures { λ r. ⌜ r ≡ distinctParticipants orders «order_count» fills skipped «fill_count» ⌝ }
+{
+    let m = at_most_fills(fill_count);
+    let places = places_of(orders, order_count, fills, m, skipped);
+    count_new(places, 2 * m)
+}
+
+fn at_most_fills(m: usize) -> usize
+    ensures { λ r. ⌜ r ≡ min m maxFills ⌝ }
+{
+    if m < MAX_FILLS { m } else { MAX_FILLS }
+}
+
+// The places of the first m fills.
+fn places_of(
+    orders: [Order; MAX_ORDERS],
+    n: usize,
+    fills: [Fill; MAX_FILLS],
+    m: usize,
+    skipped: u32,
+) -> [Place; MAX_PLACES]
+    requires { ⌜ m ≤ maxFills ⌝ }
+    ensures { λ r. ⌜ Placed orders n fills skipped r (2 * m) ⌝ }
+{
+    let nobody = Party {
+        known: false,
+        id: [0; 16],
+        wallet: [0; 32],
+    };
+    let blank = Place {
+        moved: false,
+        who: nobody,
+    };
+    let mut out = [blank; MAX_PLACES];
+    let mut k = 0;
+    while k < 2 * m {
+        let at = k / 2;
+        let f = fills[at];
+        out[k] = place_of(orders, n, f, skipped, k);
+        k += 1;
+    }
+    out
+}
+
+// Who stands at place k, of its fill f.
+fn place_of(orders: [Order; MAX_ORDERS], n: usize, f: Fill, skipped: u32, k: usize) -> Place
+    requires { ⌜ k < 2 * maxFills ⌝ }
+    ensures { λ r. ⌜ r ≡ record { moved = not (eqb (f .qty) 0) && not (isSet skipped (k / 2)); who = partyOf orders n (walletAt f k) } ⌝ }
+{
+    let w = wallet_at(f, k);
+    let who = party_of(orders, n, w);
+    let i = k / 2;
+    Place {
+        moved: has_moved(f, skipped, i as u32),
+        who,
+    }
+}
+
+fn has_moved(f: Fill, skipped: u32, i: u32) -> bool
+    requires { ⌜ i < maxFills ⌝ }
+    ensures { λ r. ⌜ r ≡ not (eqb (f .qty) 0) && not (isSet skipped i) ⌝ }
+{
+    if f.qty == 0 {
+        return false;
+    }
+    !is_skipped(skipped, i)
+}
+
+// Bit i of the skip word; a place past its width is not set.
+pub fn is_skipped(skipped: u32, i: u32) -> bool
+    ensures { λ r. ⌜ r ≡ isSet skipped i ⌝ }
+{
+    if i < 32 {
+        return (skipped >> i) % 2 == 1;
+    }
+    false
+}
+
+// The wallet at a place: even places are buyers, odd ones sellers.
+fn wallet_at(f: Fill, k: usize) -> [u8; 32]
+    ensures { λ r. ⌜ r ≡ walletAt f k ⌝ }
+{
+    if k % 2 == 0 {
+        return f.buyer;
+    }
+    f.seller
+}
+
+// Who a wallet counts as.
+fn party_of(orders: [Order; MAX_ORDERS], order_count: usize, w: [u8; 32]) -> Party
+    ensures { λ r. ⌜ r ≡ partyOf orders «order_count» w ⌝ }
+{
+    let n = at_most_orders(order_count);
+    let i = first_order(orders, n, w);
+    if i < n {
+        let o = orders[i];
+        let id = o.investor_id;
+        let none = book::same_id(id, [0; 16]);
+        return Party {
+            known: !none,
+            id,
+            wallet: w,
+        };
+    }
+    Party {
+        known: false,
+        id: [0; 16],
+        wallet: w,
+    }
+}
+
+fn at_most_orders(n: usize) -> usize
+    ensures { λ r. ⌜ r ≡ min n maxOrders ⌝ }
+{
+    if n < MAX_ORDERS { n } else { MAX_ORDERS }
+}
+
+// The first order of a wallet; n where it has none.
+fn first_order(orders: [Order; MAX_ORDERS], n: usize, w: [u8; 32]) -> usize
+    requires { ⌜ n ≤ maxOrders ⌝ }
+    ensures { λ r. ⌜ r ≡ firstOrder orders n w ⌝ }
+{
+    let mut i = 0;
+    while i < n {
+        let o = orders[i];
+        let owner = o.owner;
+        if book::same_key(owner, w) {
+            return i;
+        }
+        i += 1;
+    }
+    n
+}
+
+fn count_new(places: [Place; MAX_PLACES], n: usize) -> u64
+    requires { ⌜ n ≤ 2 * maxFills ⌝ }
+    ensures { λ r. ⌜ r ≡ count (isNew (placeIn places)) n ⌝ }
+{
+    let mut new = 0;
+    let mut k = 0;
+    while k < n {
+        new += credit_math::allocation::unit(is_new(places, k));
+        k += 1;
+    }
+    new
+}
+
+// A place of a fill that moved, whose participant stands at no earlier such place.
+fn is_new(places: [Place; MAX_PLACES], k: usize) -> bool
+    requires { ⌜ k < 2 * maxFills ⌝ }
+    ensures { λ r. ⌜ r ≡ isNew (placeIn places) k ⌝ }
+{
+    let p = places[k];
+    if p.moved {
+        return !seen_before(places, k);
+    }
+    false
+}
+
+fn seen_before(places: [Place; MAX_PLACES], k: usize) -> bool
+    requires { ⌜ k < 2 * maxFills ⌝ }
+    ensures { λ r. ⌜ r ≡ some (standsAt (placeIn places) (placeIn places k .who)) k ⌝ }
+{
+    let p = places[k];
+    let a = p.who;
+    let mut j = 0;
+    while j < k {
+        let q = places[j];
+        if stands_at(q, a) {
+            return true;
+        }
+        j += 1;
+    }
+    false
+}
+
+fn stands_at(p: Place, a: Party) -> bool
+    ensures { λ r. ⌜ r ≡ p .moved && sameParty (p .who) a ⌝ }
+{
+    let who = p.who;
+    if p.moved {
+        return same_party(who, a);
+    }
+    false
+}
+
+fn same_party(a: Party, b: Party) -> bool
+    ensures { λ r. ⌜ r ≡ sameParty a b ⌝ }
+{
+    let x = a.id;
+    let y = b.id;
+    let u = a.wallet;
+    let v = b.wallet;
+    if a.known {
+        if b.known {
+            return book::same_id(x, y);
+        }
+        return false;
+    }
+    if b.known {
+        return false;
+    }
+    book::same_key(u, v)
+}
