@@ -1,0 +1,6 @@
+-- Laws of a listing's text.
+pub mod Spliced
+pub mod Decimal
+pub mod Fields
+pub mod Lines
+pub mod Answers

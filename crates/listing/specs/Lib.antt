@@ -1,0 +1,5 @@
+-- The text of a listing.
+pub mod Words
+pub mod Lines
+pub mod Parts
+pub mod Writing

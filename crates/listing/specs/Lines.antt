@@ -1,0 +1,104 @@
+-- 'Listing': the lines of a record, and the last line.
+use mathlib.Core.Bool.{Bool, cond}
+use mathlib.Core.List.{List, [], _∷_, _++_, map}
+use Prim.Native.Nat.{ℕ, zero, suc, _+_, _*_, _/_, _%_, min}
+use lib.Count.{ones}
+use lib.Dec.{ltb, eqb}
+use lib.ListN.{take}
+use Rattle.laws.specs.Sums.{only}
+use Rattle.events.specs.Events.{maxEvents}
+use Rattle.events.specs.declared.Event.{Event}
+use Rattle.events.specs.declared.Event.the-variants.{Nothing, OrderScreened, Cleared, SessionFailed, FillAllocated, RofrExercised, RofrClosed, FillSettled, FillSkipped, ClearingPrint, PhaseChanged}
+use Rattle.events.specs.declared.Events.{Events}
+use Rattle.listing.specs.declared.Record.{Record}
+use Rattle.listing.specs.Words.{openWord, orderWord, screenWord, clearWord, failedWord, fillWord, rofrWord, closeWord, settleWord, skipWord, printWord, phaseWord, refusedWord, noneWord, endWord, space, newline}
+
+-- 'the listing prints them in base ten': the last k digits of x at most, with no leading zero
+unfoldable pub digits : (k x : ℕ) → List ℕ
+digits zero x = []
+digits (suc k) x = cond (ltb x 10) [] (digits k (x / 10)) ++ ((48 + x % 10) ∷ [])
+
+-- all of them: x has at most x + 1
+unfoldable pub decimal : ℕ → List ℕ
+decimal x = digits (suc x) x
+
+-- numbers, with a space before each
+unfoldable pub fields : List ℕ → List ℕ
+fields [] = []
+fields (n ∷ ns) = (space ∷ decimal n) ++ fields ns
+
+-- 'A line starts with its record's number': the number, a word, numbers, one newline
+unfoldable pub line : (number : ℕ) (word nums : List ℕ) → List ℕ
+line number word nums = (((decimal number ++ (space ∷ [])) ++ word) ++ fields nums) ++ (newline ∷ [])
+
+-- the line of an event
+abbrev pub eventLine : (number : ℕ) → Event → List ℕ
+eventLine number Nothing = line number noneWord []
+eventLine number (OrderScreened order exclusion) = line number screenWord (order ∷ exclusion ∷ [])
+eventLine number (Cleared price volume reserve reference) = line number clearWord (price ∷ volume ∷ reserve ∷ reference ∷ [])
+eventLine number (SessionFailed reason) = line number failedWord (reason ∷ [])
+eventLine number (FillAllocated fill buy sell qty) = line number fillWord (fill ∷ buy ∷ sell ∷ qty ∷ [])
+eventLine number (RofrExercised fill new qty price) = line number rofrWord (fill ∷ new ∷ qty ∷ price ∷ [])
+eventLine number (RofrClosed qty) = line number closeWord (qty ∷ [])
+eventLine number (FillSettled fill qty price) = line number settleWord (fill ∷ qty ∷ price ∷ [])
+eventLine number (FillSkipped fill qty reason) = line number skipWord (fill ∷ qty ∷ reason ∷ [])
+eventLine number (ClearingPrint p) =
+    line number printWord (p .price ∷ p .volume ∷ p .«n_investor_ids» ∷ only (p .«forced_sale») 1 ∷ p .policy ∷ only (p .partial) 1 ∷ [])
+eventLine number (PhaseChanged from to) = line number phaseWord (from ∷ to ∷ [])
+
+-- 'Event order is the source's'
+unfoldable pub eventLines : (number : ℕ) → List Event → List ℕ
+eventLines number [] = []
+eventLines number (e ∷ es) = eventLine number e ++ eventLines number es
+
+-- the events that a struct holds
+abbrev pub eventsIn : Events → List Event
+eventsIn es = map (λ l. l .event) (take (min (es .count) maxEvents) (es .lines))
+
+-- what a record is said to have done
+pub data Said : Type 0 where
+  opened : Said
+  ordered : (order : ℕ) → Said
+  refused : (refusal : ℕ) → Said
+  happened : List Event → Said
+
+-- the lines of a record: `none` where the source emits nothing
+abbrev pub recordLines : (number : ℕ) → Said → List ℕ
+recordLines number opened = line number openWord []
+recordLines number (ordered order) = line number orderWord (order ∷ [])
+recordLines number (refused refusal) = line number refusedWord (refusal ∷ [])
+recordLines number (happened []) = line number noneWord []
+recordLines number (happened (e ∷ es)) = eventLines number (e ∷ es)
+
+-- the cases of the declared struct: 0 open, 1 order, 2 refused, else its events
+unfoldable pub said : Record → Said
+said r =
+    cond (eqb (r .kind) 0) opened
+    (cond (eqb (r .kind) 1) (ordered (r .figure))
+    (cond (eqb (r .kind) 2) (refused (r .figure))
+    (happened (eventsIn (r .events)))))
+
+-- 'Last: `end P S`, phase and the number of skipped fills counted from the bitmap, or `end none` without an accepted header'
+unfoldable pub endLine : (accepted : Bool) (phase skipped : ℕ) → List ℕ
+endLine accepted phase skipped =
+    cond accepted ((endWord ++ fields (phase ∷ ones skipped ∷ [])) ++ (newline ∷ [])) ((endWord ++ (space ∷ noneWord)) ++ (newline ∷ []))
+
+-- the most digits of a 64-bit number, letters of a word, and figures of a line
+abbrev pub maxDigits : ℕ
+maxDigits = 20
+
+abbrev pub maxLetters : ℕ
+maxLetters = 7
+
+abbrev pub maxFigures : ℕ
+maxFigures = 6
+
+-- a line at its longest after its number and a space, the whole line, and a record's lines
+abbrev pub maxRest : ℕ
+maxRest = maxLetters + maxFigures * (1 + maxDigits) + 1
+
+abbrev pub maxLine : ℕ
+maxLine = maxDigits + 1 + maxRest
+
+abbrev pub maxRecord : ℕ
+maxRecord = maxEvents * maxLine

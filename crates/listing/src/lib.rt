@@ -1,0 +1,410 @@
+// The text of a listing: each line writer is lent the part of the output after the lines already there.
+ghost use mathlib.Core.Path.{_≡_};
+ghost use mathlib.Core.Bool.{cond};
+ghost use mathlib.Core.List.{[], _∷_, map};
+ghost use Prim.Native.Nat.{ℕ, _+_, _*_, _%_, _≤_, min};
+ghost use lib.Count.{ones};
+ghost use lib.Dec.{leb};
+ghost use lib.ListN.{length, take};
+ghost use Rattle.laws.specs.Sums.{only};
+ghost use Rattle.events.specs.Events.{maxEvents};
+ghost use Rattle.listing.specs.Lines.{decimal, fields, eventLine, eventLines, eventsIn, happened, recordLines, said, endLine, maxDigits, maxLetters, maxFigures, maxRest, maxLine, maxRecord};
+ghost use Rattle.listing.specs.Parts.{Short, parts, rest, partsLine};
+ghost use Rattle.listing.specs.Writing.{Writes, Puts};
+use events::Event;
+use events::Events;
+use events::Line;
+use events::MAX_EVENTS;
+use events::Print;
+
+// The most digits of a number of 64 bits.
+const MAX_DIGITS: usize = 20;
+
+// The most letters of a word: `refused`.
+const MAX_LETTERS: usize = 7;
+
+// The most figures of a line: a print's.
+const MAX_FIGURES: usize = 6;
+
+// A line at its longest: the record's number, a space, a word, figures with a space before each, a newline.
+const MAX_LINE: usize = MAX_DIGITS + 1 + MAX_LETTERS + MAX_FIGURES * (1 + MAX_DIGITS) + 1;
+
+// Room for any record's lines, and for the last line.
+pub const ROOM: usize = MAX_EVENTS * MAX_LINE;
+
+// Line writer: lines longer than their part.
+const TOO_LONG: u8 = 27;
+
+// What a writer answers: 0 and the length that it wrote, or 27.
+pub struct Written {
+    pub refusal: u8,
+    pub len: usize,
+}
+
+// What is said of a record, by kind: 0 opened, 1 an order with its number, 2 refused with a number, 3 its events.
+pub struct Record {
+    pub kind: u8,
+    pub figure: u64,
+    pub events: Events,
+}
+
+// A record's lines at the start of out; where they are longer than out, 27, and out is left as it was.
+pub fn put_record(out: &mut [u8], number: u64, record: Record) -> Written
+    ensures { λ r. ⌜ Writes (recordLines number (said «record»)) r (now (out .entry)) (now (out .exit)) ⌝ }
+{
+    let mut text = [0u8; ROOM];
+    let len = print_record(&mut text, number, record);
+    put_text(out, &text[..len])
+}
+
+// The last line, likewise.
+pub fn put_end(out: &mut [u8], accepted: bool, phase: u8, skipped: u32) -> Written
+    ensures { λ r. ⌜ Writes (endLine accepted phase skipped) r (now (out .entry)) (now (out .exit)) ⌝ }
+{
+    let mut text = [0u8; ROOM];
+    let len = print_end(&mut text, accepted, phase, skipped);
+    put_text(out, &text[..len])
+}
+
+// The same into a buffer that holds any record's lines: this and the next never refuse.
+pub fn print_record(out: &mut [u8; ROOM], number: u64, record: Record) -> usize
+    ensures { λ r. ⌜ Puts (recordLines number (said «record»)) 0 r (now (out .entry)) (now (out .exit)) × (r ≤ maxRecord) ⌝ }
+{
+    put_said(out, number, record)
+}
+
+// The last line into such a buffer.
+pub fn print_end(out: &mut [u8; ROOM], accepted: bool, phase: u8, skipped: u32) -> usize
+    ensures { λ r. ⌜ Puts (endLine accepted phase skipped) 0 r (now (out .entry)) (now (out .exit)) × (r ≤ maxRecord) ⌝ }
+{
+    put_last(out, accepted, phase, skipped)
+}
+
+// A text at the start of out; where it is longer than out, 27, and out is left as it was.
+fn put_text(out: &mut [u8], text: &[u8]) -> Written
+    ensures { λ r. ⌜ Writes (now (text .entry)) r (now (out .entry)) (now (out .exit)) ⌝ }
+{
+    let answer = answer_for(text.len(), out.len());
+    let len = answer.len;
+    put_bytes(out, 0, &text[..len]);
+    answer
+}
+
+// The answer to a text of that length, where there is room for so many bytes.
+fn answer_for(len: usize, room: usize) -> Written
+    ensures { λ r. ⌜ r ≡ cond (leb len room) (record { refusal = 0; len = len }) (record { refusal = 27; len = 0 }) ⌝ }
+{
+    if room < len {
+        return Written {
+            refusal: TOO_LONG,
+            len: 0,
+        };
+    }
+    Written { refusal: 0, len }
+}
+
+// The lines of a record, by its kind.
+fn put_said(out: &mut [u8], number: u64, record: Record) -> usize
+    requires { ⌜ maxRecord ≤ length (now out) ⌝ }
+    ensures { λ r. ⌜ Puts (recordLines number (said «record»)) 0 r (now (out .entry)) (now (out .exit)) × (r ≤ maxRecord) ⌝ }
+{
+    let kind = record.kind;
+    match kind {
+        0 => put_line(out, 0, number, bare(OPEN)),
+        1 => put_line(out, 0, number, one(ORDER, record.figure)),
+        2 => put_line(out, 0, number, one(REFUSED, record.figure)),
+        _ => {
+            let events = record.events;
+            let lines = events.lines;
+            put_events(out, number, lines, events.count)
+        }
+    }
+}
+
+// `none`, or a line for each event.
+fn put_events(out: &mut [u8], number: u64, lines: [Line; MAX_EVENTS], count: usize) -> usize
+    requires { ⌜ maxRecord ≤ length (now out) ⌝ }
+    ensures { λ r. ⌜ Puts (recordLines number (happened (eventsIn (record { lines = lines; count = count })))) 0 r (now (out .entry)) (now (out .exit)) × (r ≤ maxRecord) ⌝ }
+{
+    let n = held(count);
+    if n == 0 {
+        return put_line(out, 0, number, bare(NONE));
+    }
+    put_lines(out, number, lines, n)
+}
+
+// How many events an array with that count holds.
+fn held(count: usize) -> usize
+    ensures { λ r. ⌜ r ≡ min count maxEvents ⌝ }
+{
+    if count < MAX_EVENTS {
+        count
+    } else {
+        MAX_EVENTS
+    }
+}
+
+// The lines of the first n events.
+fn put_lines(out: &mut [u8], number: u64, lines: [Line; MAX_EVENTS], n: usize) -> usize
+    requires { ⌜ (n ≤ maxEvents) × (maxRecord ≤ length (now out)) ⌝ }
+    ensures { λ r. ⌜ Puts (eventLines number (map (λ l. l .event) (take n lines))) 0 r (now (out .entry)) (now (out .exit)) × (r ≤ maxRecord) ⌝ }
+{
+    let mut k = 0;
+    let mut i = 0;
+    while i < n {
+        let line = lines[i];
+        let event = line.event;
+        k = put_line(out, k, number, parts_of(event));
+        i += 1;
+    }
+    k
+}
+
+// A word: its letters, with spaces after them, and how many they are.
+struct Word([u8; MAX_LETTERS], usize);
+
+const OPEN: Word = Word(*b"open   ", 4);
+
+const ORDER: Word = Word(*b"order  ", 5);
+
+const SCREEN: Word = Word(*b"screen ", 6);
+
+const CLEAR: Word = Word(*b"clear  ", 5);
+
+const FAILED: Word = Word(*b"failed ", 6);
+
+const FILL: Word = Word(*b"fill   ", 4);
+
+const ROFR: Word = Word(*b"rofr   ", 4);
+
+const CLOSE: Word = Word(*b"close  ", 5);
+
+const SETTLE: Word = Word(*b"settle ", 6);
+
+const SKIP: Word = Word(*b"skip   ", 4);
+
+const PRINT: Word = Word(*b"print  ", 5);
+
+const PHASE: Word = Word(*b"phase  ", 5);
+
+const REFUSED: Word = Word(*b"refused", 7);
+
+const NONE: Word = Word(*b"none   ", 4);
+
+const END: Word = Word(*b"end    ", 3);
+
+// A line after its record's number: a word and the first so many of the figures.
+struct Parts {
+    word: Word,
+    count: usize,
+    nums: [u64; MAX_FIGURES],
+}
+
+// The word and the figures of an event's line.
+fn parts_of(e: Event) -> Parts
+    ensures { λ r. ⌜ Short r × ((number : ℕ) → partsLine number r ≡ eventLine number e) ⌝ }
+{
+    match e {
+        Event::Nothing => bare(NONE),
+        Event::OrderScreened { order, exclusion } => two(SCREEN, order as u64, exclusion as u64),
+        Event::Cleared {
+            price,
+            volume,
+            reserve,
+            reference,
+        } => four(CLEAR, price, volume, reserve, reference),
+        Event::SessionFailed(reason) => one(FAILED, reason as u64),
+        Event::FillAllocated {
+            fill,
+            buy,
+            sell,
+            qty,
+        } => four(FILL, fill as u64, buy as u64, sell as u64, qty),
+        Event::RofrExercised {
+            fill,
+            new,
+            qty,
+            price,
+        } => four(ROFR, fill as u64, new as u64, qty, price),
+        Event::RofrClosed(qty) => one(CLOSE, qty),
+        Event::FillSettled { fill, qty, price } => three(SETTLE, fill as u64, qty, price),
+        Event::FillSkipped { fill, qty, reason } => three(SKIP, fill as u64, qty, reason as u64),
+        Event::ClearingPrint(print) => print_parts(print),
+        Event::PhaseChanged { from, to } => two(PHASE, from as u64, to as u64),
+    }
+}
+
+// A line without a figure, with one, two, three or four.
+fn bare(word: Word) -> Parts
+    ensures { λ r. ⌜ r ≡ parts word [] ⌝ }
+{
+    Parts {
+        word,
+        count: 0,
+        nums: [0; MAX_FIGURES],
+    }
+}
+
+fn one(word: Word, a: u64) -> Parts
+    ensures { λ r. ⌜ r ≡ parts word (a ∷ []) ⌝ }
+{
+    Parts {
+        word,
+        count: 1,
+        nums: [a, 0, 0, 0, 0, 0],
+    }
+}
+
+fn two(word: Word, a: u64, b: u64) -> Parts
+    ensures { λ r. ⌜ r ≡ parts word (a ∷ b ∷ []) ⌝ }
+{
+    Parts {
+        word,
+        count: 2,
+        nums: [a, b, 0, 0, 0, 0],
+    }
+}
+
+fn three(word: Word, a: u64, b: u64, c: u64) -> Parts
+    ensures { λ r. ⌜ r ≡ parts word (a ∷ b ∷ c ∷ []) ⌝ }
+{
+    Parts {
+        word,
+        count: 3,
+        nums: [a, b, c, 0, 0, 0],
+    }
+}
+
+fn four(word: Word, a: u64, b: u64, c: u64, d: u64) -> Parts
+    ensures { λ r. ⌜ r ≡ parts word (a ∷ b ∷ c ∷ d ∷ []) ⌝ }
+{
+    Parts {
+        word,
+        count: 4,
+        nums: [a, b, c, d, 0, 0],
+    }
+}
+
+// A print's line.
+fn print_parts(p: Print) -> Parts
+    ensures { λ r. ⌜ Short r × ((number : ℕ) → partsLine number r ≡ eventLine number (Event.ClearingPrint p)) ⌝ }
+{
+    Parts {
+        word: PRINT,
+        count: 6,
+        nums: [
+            p.price,
+            p.volume,
+            p.n_investor_ids,
+            bit(p.forced_sale),
+            p.policy as u64,
+            bit(p.partial),
+        ],
+    }
+}
+
+// 1 where it is so, else 0.
+fn bit(b: bool) -> u64
+    ensures { λ r. ⌜ r ≡ only b 1 ⌝ }
+{
+    if b { 1 } else { 0 }
+}
+
+// A line: the record's number, a space, and the rest.
+fn put_line(out: &mut [u8], at: usize, number: u64, parts: Parts) -> usize
+    requires { ⌜ Short parts × (at + maxLine ≤ length (now out)) ⌝ }
+    ensures { λ r. ⌜ Puts (partsLine number parts) at r (now (out .entry)) (now (out .exit)) × (r ≤ at + maxLine) ⌝ }
+{
+    let k = put_dec(out, at, number);
+    out[k] = b' ';
+    put_rest(out, k + 1, parts)
+}
+
+// The rest of a line: a word, figures with a space before each, and a newline.
+fn put_rest(out: &mut [u8], at: usize, parts: Parts) -> usize
+    requires { ⌜ Short parts × (at + maxRest ≤ length (now out)) ⌝ }
+    ensures { λ r. ⌜ Puts (rest parts) at r (now (out .entry)) (now (out .exit)) × (r ≤ at + maxRest) ⌝ }
+{
+    let word = parts.word;
+    let letters = word.0;
+    let nums = parts.nums;
+    let word_end = put_word(out, at, letters, word.1);
+    let end = put_figures(out, word_end, nums, parts.count);
+    out[end] = b'\n';
+    end + 1
+}
+
+// The first n letters.
+fn put_word(out: &mut [u8], at: usize, letters: [u8; MAX_LETTERS], n: usize) -> usize
+    requires { ⌜ (n ≤ maxLetters) × (at + maxLetters ≤ length (now out)) ⌝ }
+    ensures { λ r. ⌜ Puts (take n letters) at r (now (out .entry)) (now (out .exit)) × (r ≤ at + maxLetters) ⌝ }
+{
+    put_bytes(out, at, &letters[..n])
+}
+
+// The first n figures, with a space before each.
+fn put_figures(out: &mut [u8], at: usize, nums: [u64; MAX_FIGURES], n: usize) -> usize
+    requires { ⌜ (n ≤ maxFigures) × (at + maxFigures * (1 + maxDigits) ≤ length (now out)) ⌝ }
+    ensures { λ r. ⌜ Puts (fields (take n nums)) at r (now (out .entry)) (now (out .exit)) × (r ≤ at + maxFigures * (1 + maxDigits)) ⌝ }
+{
+    let mut k = at;
+    let mut i = 0;
+    while i < n {
+        out[k] = b' ';
+        k = put_dec(out, k + 1, nums[i]);
+        i += 1;
+    }
+    k
+}
+
+// x in base ten.
+fn put_dec(out: &mut [u8], at: usize, x: u64) -> usize
+    requires { ⌜ at + maxDigits ≤ length (now out) ⌝ }
+    ensures { λ r. ⌜ Puts (decimal x) at r (now (out .entry)) (now (out .exit)) × (r ≤ at + maxDigits) ⌝ }
+{
+    if x < 10 {
+        out[at] = digit(x);
+        return at + 1;
+    }
+    let k = put_dec(out, at, x / 10);
+    out[k] = digit(x);
+    k + 1
+}
+
+// The last digit of x.
+fn digit(x: u64) -> u8
+    ensures { λ r. ⌜ r ≡ 48 + x % 10 ⌝ }
+{
+    b'0' + (x % 10) as u8
+}
+
+// The bytes of a text.
+fn put_bytes(out: &mut [u8], at: usize, bytes: &[u8]) -> usize
+    requires { ⌜ at + length (now bytes) ≤ length (now out) ⌝ }
+    ensures { λ r. ⌜ Puts (now (bytes .entry)) at r (now (out .entry)) (now (out .exit)) ⌝ }
+{
+    let mut i = 0;
+    while i < bytes.len() {
+        out[at + i] = bytes[i];
+        i += 1;
+    }
+    at + i
+}
+
+// The last line: phase and number of skipped fills, or `none` without an accepted header.
+fn put_last(out: &mut [u8], accepted: bool, phase: u8, skipped: u32) -> usize
+    requires { ⌜ maxRecord ≤ length (now out) ⌝ }
+    ensures { λ r. ⌜ Puts (endLine accepted phase skipped) 0 r (now (out .entry)) (now (out .exit)) × (r ≤ maxRecord) ⌝ }
+{
+    if accepted {
+        return put_rest(out, 0, two(END, phase as u64, ones_of(skipped)));
+    }
+    put_bytes(out, 0, b"end none\n")
+}
+
+// The number of ones of a word.
+fn ones_of(word: u32) -> u64
+    ensures { λ r. ⌜ r ≡ ones word ⌝ }
+{
+    u32::count_ones(word) as u64
+}
