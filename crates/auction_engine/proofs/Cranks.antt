@@ -1,0 +1,176 @@
+-- Laws of the definitions of allocate: what a turn does, what turns keep, and how many events they make. Assumes nothing.
+use mathlib.Core.Path.{_≡_, refl, sym, _∙_, ap}
+use mathlib.Core.Bool.{Bool, true, false, cond, _&&_, and-false}
+use mathlib.Core.List.{[], _∷_}
+use Prim.Native.Nat.{ℕ, zero, suc, _+_, _<_, _≤_, min}
+use native.Mathlib.Omega.{arith}
+use borrow.Author.Tests.{lt-ltb, le-ltb, lt-leb, le-leb, ltb-true, leb-true, leb-false}
+use lib.Dec.{ltb, leb}
+use lib.ListN.{length}
+use Rattle.laws.proofs.Tests.{clash, both}
+use Rattle.credit_math.specs.Limits.{maxOrders}
+use Rattle.book.specs.Limits.{maxFills}
+use Rattle.events.specs.declared.Events.{Events}
+use Rattle.events.specs.declared.Event.{Event}
+use Rattle.events.specs.declared.Event.the-variants.{FillAllocated, PhaseChanged}
+use Rattle.events.specs.Events.{pushed}
+use Rattle.auction_engine.specs.declared.Session.{Session}
+use Rattle.auction_engine.specs.declared.Answer.{Answer}
+use Rattle.auction_engine.specs.declared.matching.Crank.{Crank}
+use Rattle.auction_engine.specs.Session.{left, atPhase}
+use Rattle.auction_engine.specs.Matching.{buyAt, sellAt, due, dueQty, pair, one, crank, overfull, fillEvents, done, phaseAfter}
+use Rattle.auction_engine.specs.Cranks.{filled, stepped, matchedBy}
+
+-- what a pairing keeps, one fill and any number of turns keep
+module _ {A : Type 0} (f : Session → A) (h : (s : Session) (b a q : ℕ) → f (pair s b a q) ≡ f s) where
+  one-keeps : (s : Session) → f (one s) ≡ f s
+  unfolding one
+  one-keeps s = go (due s)
+    where
+      go : (x : Bool) → f (cond x (pair s (buyAt s) (sellAt s) (dueQty s)) s) ≡ f s
+      go true = h s (buyAt s) (sellAt s) (dueQty s)
+      go false = refl
+
+  crank-keeps : (n : ℕ) (s : Session) → f (crank n s) ≡ f s
+  unfolding crank
+  crank-keeps zero s = refl
+  crank-keeps (suc n) s = crank-keeps n (one s) ∙ one-keeps s
+
+pub one-orders : (s : Session) → one s .«order_count» ≡ s .«order_count»
+unfolding pair
+one-orders s = one-keeps (λ t. t .«order_count») (λ t b a q. refl) s
+
+pub crank-orders : (n : ℕ) (s : Session) → crank n s .«order_count» ≡ s .«order_count»
+unfolding pair
+crank-orders n s = crank-keeps (λ t. t .«order_count») (λ t b a q. refl) n s
+
+pub crank-phase : (n : ℕ) (s : Session) → crank n s .phase ≡ s .phase
+unfolding pair
+crank-phase n s = crank-keeps (λ t. t .phase) (λ t b a q. refl) n s
+
+pub crank-phase-after : (n : ℕ) (s : Session) → phaseAfter (crank n s) ≡ phaseAfter s
+unfolding pair phaseAfter
+crank-phase-after n s = crank-keeps phaseAfter (λ t b a q. refl) n s
+
+-- nothing is due: turns do nothing
+module _ (s : Session) (d : due s ≡ false) where
+  idle-one : one s ≡ s
+  unfolding one
+  idle-one = ap (λ (x : Bool). cond x (pair s (buyAt s) (sellAt s) (dueQty s)) s) d
+
+  pub idle-crank : (n : ℕ) → crank n s ≡ s
+  unfolding crank
+  idle-crank zero = refl
+  idle-crank (suc n) = ap (crank n) idle-one ∙ idle-crank n
+
+  pub idle-full : (n : ℕ) → overfull n s ≡ false
+  unfolding overfull
+  idle-full zero = refl
+  idle-full (suc n) = rw d (ap (overfull n) idle-one ∙ idle-full n)
+
+  pub idle-events : (n : ℕ) → fillEvents n s ≡ []
+  unfolding fillEvents
+  idle-events zero = refl
+  idle-events (suc n) = rw d
+
+-- the event of the fill that is due
+abbrev pub dueEvent : Session → Event
+dueEvent s = FillAllocated (s .«fill_count») (buyAt s) (sellAt s) (dueQty s)
+
+-- a fill is due
+module _ (s : Session) (d : due s ≡ true) where
+  pub due-one : one s ≡ pair s (buyAt s) (sellAt s) (dueQty s)
+  unfolding one
+  due-one = ap (λ (x : Bool). cond x (pair s (buyAt s) (sellAt s) (dueQty s)) s) d
+
+  pub due-count : one s .«fill_count» ≡ s .«fill_count» + 1
+  unfolding pair
+  due-count = ap (λ (t : Session). t .«fill_count») due-one
+
+  pub due-events : (n : ℕ) → fillEvents (suc n) s ≡ dueEvent s ∷ fillEvents n (one s)
+  unfolding fillEvents
+  due-events n = rw d
+
+  pub due-full : (n : ℕ) → maxFills ≤ s .«fill_count» → overfull (suc n) s ≡ true
+  unfolding overfull
+  due-full n h = rw (d, le-leb maxFills (s .«fill_count») h)
+
+pub crank-more : (n : ℕ) (s : Session) → crank (suc n) s ≡ crank n (one s)
+unfolding crank
+crank-more n s = refl
+
+-- a place is free: the turns after the next decide
+pub free-full : (n : ℕ) (s : Session) → s .«fill_count» < maxFills → overfull (suc n) s ≡ overfull n (one s)
+unfolding overfull
+free-full n s h = rw (lt-leb maxFills (s .«fill_count») h, and-false (due s))
+
+-- no event of a call that is not refused lacks a place
+pub events-fit : (n : ℕ) (s : Session) → s .«fill_count» ≤ maxFills → overfull n s ≡ false → length (fillEvents n s) + s .«fill_count» ≤ maxFills
+unfolding fillEvents
+events-fit zero s h e = omega (arith, h)
+events-fit (suc n) s h e = go (due s) refl (leb maxFills (s .«fill_count»)) refl (λ g f. events-fit n (one s) g f)
+  where
+    go : (x : Bool) → due s ≡ x → (y : Bool) → leb maxFills (s .«fill_count») ≡ y
+        → (one s .«fill_count» ≤ maxFills → overfull n (one s) ≡ false → length (fillEvents n (one s)) + one s .«fill_count» ≤ maxFills)
+        → length (cond x (dueEvent s ∷ fillEvents n (one s)) []) + s .«fill_count» ≤ maxFills
+    go false d y f ih = omega (arith, h)
+    go true d false f ih =
+        let l : s .«fill_count» < maxFills = leb-false maxFills (s .«fill_count») f in
+        let g : one s .«fill_count» ≡ s .«fill_count» + 1 = due-count s d in
+        omega (arith, ih (omega arith) (sym (free-full n s l) ∙ e))
+    go true d true f ih = absurd (clash (overfull (suc n) s) (due-full s d n (leb-true maxFills (s .«fill_count») f)) e)
+
+-- a turn: it makes the fill that is due, finds no place for it, or finds none due
+module _ (k : Crank) where
+  pub step-fills : due (k .session) ≡ true → k .session .«fill_count» < maxFills → stepped k ≡ record { stopped = false; full = false; session = one (k .session); events = pushed (k .events) (dueEvent (k .session)) }
+  unfolding stepped filled one
+  step-fills d h = rw (d, lt-ltb (k .session .«fill_count») maxFills h)
+
+  pub step-full : due (k .session) ≡ true → maxFills ≤ k .session .«fill_count» → stepped k ≡ record { stopped = true; full = true; session = k .session; events = k .events }
+  unfolding stepped filled
+  step-full d h = rw (d, le-ltb (k .session .«fill_count») maxFills h)
+
+  pub step-stops : due (k .session) ≡ false → stepped k ≡ record { stopped = true; full = false; session = k .session; events = k .events }
+  unfolding stepped
+  step-stops d = rw d
+
+-- a fill as the code comes to it, where a place is free and where none is
+module _ (k : Crank) (b a : ℕ) where
+  pub filled-pairs : (q : ℕ) (t : Session) (l : Events) → k .session .«fill_count» < maxFills → q ≡ min (left (k .session) b) (left (k .session) a)
+      → t ≡ pair (k .session) b a (min (left (k .session) b) (left (k .session) a)) → l ≡ pushed (k .events) (FillAllocated (k .session .«fill_count») b a q)
+      → _≡_ {A = Crank} (record { stopped = false; full = false; session = t; events = l }) (filled k b a)
+  unfolding filled
+  filled-pairs q t l h e f g = rw (g, f, e, lt-ltb (k .session .«fill_count») maxFills h)
+
+  pub filled-full : maxFills ≤ k .session .«fill_count» → _≡_ {A = Crank} (record { stopped = true; full = true; session = k .session; events = k .events }) (filled k b a)
+  unfolding filled
+  filled-full h = rw (le-ltb (k .session .«fill_count») maxFills h)
+
+-- a turn as the code comes to it, from the two places that it found
+module _ (k : Crank) (b a : ℕ) (e : b ≡ buyAt (k .session)) (f : a ≡ sellAt (k .session)) where
+  due-as : (ltb b (k .session .«order_count») && ltb a (k .session .«order_count»)) ≡ due (k .session)
+  unfolding due
+  due-as = rw (e, f)
+
+  pub stepped-fills : (ltb b (k .session .«order_count») && ltb a (k .session .«order_count»)) ≡ true → filled k b a ≡ stepped k
+  unfolding stepped
+  stepped-fills t = rw (sym due-as ∙ t, e, f)
+
+  pub stepped-stops : (ltb b (k .session .«order_count») && ltb a (k .session .«order_count»)) ≡ false
+      → _≡_ {A = Crank} (record { stopped = true; full = false; session = k .session; events = k .events }) (stepped k)
+  stepped-stops t = sym (step-stops k (sym due-as ∙ t))
+
+-- two places below the count are places of the array
+pub both-places : (b a n : ℕ) → (ltb b n && ltb a n) ≡ true → n ≤ maxOrders → (b < maxOrders) × (a < maxOrders)
+both-places b a n t h = let e = both (ltb b n) (ltb a n) t in (omega (arith, ltb-true b n (e .0)), omega (arith, ltb-true a n (e .1)))
+
+-- the answer as the code comes to it, by whether every lot is paired
+module _ (k : Crank) where
+  pub matched-done : (to : ℕ) (t : Session) (l : Events) → done (k .session) ≡ true → to ≡ phaseAfter (k .session) → t ≡ atPhase (k .session) to
+      → l ≡ pushed (k .events) (PhaseChanged (k .session .phase) to) → _≡_ {A = Answer} (record { refusal = 0; session = t; events = l }) (matchedBy k)
+  unfolding matchedBy
+  matched-done to t l d e f g = rw (g, f, e, d)
+
+  pub matched-more : done (k .session) ≡ false → _≡_ {A = Answer} (record { refusal = 0; session = k .session; events = k .events }) (matchedBy k)
+  unfolding matchedBy
+  matched-more d = rw d

@@ -1,0 +1,13 @@
+-- Laws of sessions, calls and answers.
+pub mod Phases
+pub mod Checks
+pub mod Answers
+pub mod Places
+pub mod Lots
+pub mod Clears
+pub mod Cranks
+pub mod Turns
+pub mod Allocating
+pub mod Purchases
+pub mod Prints
+pub mod Records

@@ -1,0 +1,72 @@
+-- `auction_engine::clearing::all_screened` meets its contract. The loop's invariant: every order passed is screened if it was revealed.
+-- Assumes nothing.
+use mathlib.Core.Path.{_≡_, sym, _∙_}
+use mathlib.Core.Bool.{Bool, true, not, _||_}
+use mathlib.Core.List.{List}
+use Prim.Native.Nat.{ℕ, _≤_, _-_}
+use borrow.Author.Needs.{needs}
+use borrow.Author.Tests.{not-true, not-false}
+use Rattle.laws.specs.Search.{every}
+use Rattle.laws.proofs.Search.{every-start, every-more, every-not, every-end}
+use Rattle.book.specs.Book.{orderIn}
+use Rattle.book.specs.declared.Order.{Order}
+use Rattle.auction_engine.proofs.clearing.all_screened.Statement.{statement}
+use Rattle.auction_engine.proofs.clearing.all_screened.Tie as tie
+
+abbrev ready : List Order → ℕ → Bool
+ready orders i = not (orderIn orders i .revealed) || orderIn orders i .screened
+
+abbrev Inv-loop : tie.InvT-loop
+Inv-loop n orders i₀ i = (i ≤ n) × (every (ready orders) i ≡ true)
+
+abbrev μ-loop : tie.MeasureT-loop
+μ-loop n orders i₀ i = n - i
+
+loop-holds : tie.Need-loop-holds Inv-loop μ-loop
+loop-holds c = (search needs, every-start (ready (c .args .t1)))
+
+mul-o : tie.Need-mul-o Inv-loop μ-loop
+mul-o c = search needs
+
+array-copy-out-o : tie.Need-array-copy-out-o Inv-loop μ-loop
+array-copy-out-o c = search needs
+
+is-ready-requires : tie.Need-is-ready-requires Inv-loop μ-loop
+is-ready-requires c κs = search needs
+
+returns : tie.Need-returns Inv-loop μ-loop
+returns c =
+    let q = c .before .before .before .before in
+    every-not (ready (q .before .args .t1)) (q .before .args .n) (q .loop .i) (search needs) (sym (c .before .is-ready .ensures) ∙ not-true _ (c .if1 .taken))
+
+add-i : tie.Need-add-i Inv-loop μ-loop
+add-i c = search needs
+
+loop-less : tie.Need-loop-less Inv-loop μ-loop
+loop-less c = search needs
+
+loop-again : tie.Need-loop-again Inv-loop μ-loop
+loop-again c =
+    let q = c .before .before .before .before in
+    (search needs, every-more (ready (q .before .args .t1)) (q .loop .i) (q .loop .inv .1) (sym (c .before .is-ready .ensures) ∙ not-false _ (c .if1 .left)))
+
+returns-2 : tie.Need-returns-2 Inv-loop μ-loop
+returns-2 c =
+    let q = c .before in
+    every-end (ready (q .before .args .t1)) (q .before .args .n) (q .loop .i) (q .loop .inv .1) (q .loop .inv .0) (c .loop-test .left)
+
+pub all-screened-spec : {M : Type 1} → statement M
+all-screened-spec =
+    tie.close
+    (tie.spec
+    Inv-loop
+    μ-loop
+    loop-holds
+    mul-o
+    array-copy-out-o
+    is-ready-requires
+    returns
+    add-i
+    loop-less
+    loop-again
+    returns-2)

@@ -1,0 +1,175 @@
+// The call `screen`: one order against its gate verdict and its investor's other orders.
+ghost use mathlib.Core.Path.{_≡_};
+ghost use mathlib.Core.Bool.{Bool, true, false, cond, not, _&&_, _||_};
+ghost use Prim.Native.Nat.{ℕ, _<_, _≤_};
+ghost use lib.Dec.{ltb, leb, eqb};
+ghost use lib.ListN.{set};
+ghost use Rattle.laws.specs.Lists.{same};
+ghost use Rattle.laws.specs.Checks.{unless, _then_};
+ghost use Rattle.credit_math.specs.Limits.{maxOrders};
+ghost use Rattle.book.specs.Book.{noInvestor};
+ghost use Rattle.events.specs.Events.{packed};
+ghost use Rattle.auction_engine.specs.Session.{orderAt, remake};
+ghost use Rattle.auction_engine.specs.Call.{argumentsRefusal};
+ghost use Rattle.auction_engine.specs.Screening.{exclusionOf, screenedAs, screenLines};
+ghost use Rattle.auction_engine.specs.Engine.{refusal, answer};
+ghost use Rattle.auction_engine.specs.Call as call;
+use crate::Answer;
+use crate::Session;
+use crate::first_of;
+use crate::unless;
+use book::Order;
+use events::Event;
+use events::Events;
+
+impl Session {
+    // An order's gate verdict, and the id of its investor where one is given.
+    pub fn screen(
+        self,
+        now: i64,
+        order: u8,
+        side: u8,
+        verdict: u8,
+        has_id: bool,
+        id: [u8; 16],
+    ) -> Answer
+        ensures { λ r. ⌜ r ≡ answer self (call.screen now order side verdict «has_id» id) ⌝ }
+    {
+        let refusal = self.screen_refusal(now, order, side, verdict, has_id, id);
+        if refusal != 0 {
+            return Answer::refused(self, refusal);
+        }
+        let i = order as usize;
+        let exclusion = self.exclusion_of(i, verdict, has_id, id);
+        let events = screen_events(self.phase, order, exclusion);
+        let session = self.with_screened(i, exclusion, has_id, id);
+        Answer {
+            refusal: 0,
+            session,
+            events,
+        }
+    }
+
+    fn screen_refusal(
+        self,
+        now: i64,
+        order: u8,
+        side: u8,
+        verdict: u8,
+        has_id: bool,
+        id: [u8; 16],
+    ) -> u8
+        ensures { λ r. ⌜ r ≡ refusal self (call.screen now order side verdict «has_id» id) ⌝ }
+    {
+        let bad = self.checked();
+        if bad != 0 {
+            return bad;
+        }
+        let argument = arguments_refusal(side, verdict, has_id, id);
+        let window = unless(self.in_window(now), book::error::OUTSIDE_WINDOW);
+        let phase = unless(
+            crate::admits(self.phase, crate::SCREEN),
+            book::error::WRONG_PHASE,
+        );
+        let no_order = self.order_refusal(order as usize, side);
+        first_of(argument, first_of(window, first_of(phase, no_order)))
+    }
+
+    // 12 no such order; 13 side; 14 not revealed; 15 screened.
+    fn order_refusal(self, i: usize, side: u8) -> u8
+        requires { ⌜ self .«order_count» ≤ maxOrders ⌝ }
+        ensures { λ r. ⌜ r ≡ unless (ltb i (self .«order_count»)) 12
+            then unless (eqb (orderAt self i .side) side) 13
+            then unless (orderAt self i .revealed) 14
+            then unless (not (orderAt self i .screened)) 15 ⌝ }
+    {
+        if self.order_count <= i {
+            return book::error::NO_ORDER;
+        }
+        let o = self.orders[i];
+        let other = unless(o.side == side, book::error::WRONG_SIDE);
+        let hidden = unless(o.revealed, book::error::NOT_REVEALED);
+        let again = unless(!o.screened, book::error::ALREADY_SCREENED);
+        first_of(other, first_of(hidden, again))
+    }
+
+    // A verdict other than 0 is the exclusion; with verdict 0 and an id, the investor's other orders decide.
+    fn exclusion_of(self, i: usize, verdict: u8, has_id: bool, id: [u8; 16]) -> u8
+        ensures { λ r. ⌜ r ≡ exclusionOf self i verdict «has_id» id ⌝ }
+    {
+        if verdict != 0 {
+            return verdict;
+        }
+        if has_id {
+            let p = self.params;
+            let orders = self.orders;
+            return investors::exclusion::investor_exclusion(
+                orders,
+                self.order_count,
+                i,
+                id,
+                p.max_cash,
+            );
+        }
+        0
+    }
+
+    fn with_screened(self, i: usize, exclusion: u8, has_id: bool, id: [u8; 16]) -> Session
+        requires { ⌜ i < maxOrders ⌝ }
+        ensures { λ r. ⌜ r ≡ remake self (self .cleared) 7 (self .«rofr_qty») (self .«fills_settled») (self .«skipped_fills»)
+            (set (self .orders) i (screenedAs (orderAt self i) exclusion «has_id» id)) (self .fills) (self .«fill_count») ⌝ }
+    {
+        let o = self.orders[i];
+        let screened = as_screened(o, exclusion, has_id, id);
+        let mut next = self;
+        next.orders[i] = screened;
+        next.phase = crate::CLEARING;
+        next
+    }
+}
+
+// 4: a side or a verdict outside its values; without an id it is zeros; a passed buy has an id.
+pub fn arguments_refusal(side: u8, verdict: u8, has_id: bool, id: [u8; 16]) -> u8
+    ensures { λ r. ⌜ r ≡ unless (leb side 1) 4
+        then unless (leb verdict 6) 4
+        then unless («has_id» || same id noInvestor) 4
+        then unless («has_id» || not (eqb side 0 && eqb verdict 0)) 4 ⌝ }
+{
+    let sides = unless(side <= 1, book::error::BAD_FIELD);
+    let verdicts = unless(verdict <= 6, book::error::BAD_FIELD);
+    let zeros = unless(
+        crate::either(has_id, book::same_id(id, [0; 16])),
+        book::error::BAD_FIELD,
+    );
+    let passed_buy = crate::both(side == 0, verdict == 0);
+    let given = unless(crate::either(has_id, !passed_buy), book::error::BAD_FIELD);
+    first_of(sides, first_of(verdicts, first_of(zeros, given)))
+}
+
+fn as_screened(o: Order, exclusion: u8, has_id: bool, id: [u8; 16]) -> Order
+    ensures { λ r. ⌜ r ≡ screenedAs o exclusion «has_id» id ⌝ }
+{
+    let mut screened = o;
+    screened.screened = true;
+    screened.eligible = exclusion == 0;
+    if has_id {
+        screened.investor_id = id;
+        return screened;
+    }
+    screened
+}
+
+// The change of phase on the first screen, then the screen.
+fn screen_events(from: u8, order: u8, exclusion: u8) -> Events
+    ensures { λ r. ⌜ r ≡ packed (screenLines from order exclusion) ⌝ }
+{
+    let none = Events::none();
+    if from == crate::CLEARING {
+        return none.push(Event::OrderScreened { order, exclusion });
+    }
+    let moved = none.push(Event::PhaseChanged {
+        from,
+        to: crate::CLEARING,
+    });
+    moved.push(Event::OrderScreened { order, exclusion })
+}

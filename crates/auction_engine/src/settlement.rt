@@ -1,0 +1,317 @@
+// The calls `settle`, `skip_fill`, `finish` and `expire`. Cash and notes move on the chain.
+ghost use mathlib.Core.Path.{_≡_};
+ghost use mathlib.Core.Bool.{Bool, true, false, cond, not};
+ghost use Prim.Native.Nat.{ℕ, _+_, _-_, _^_, _<_, _≤_, min};
+ghost use lib.Dec.{ltb, leb, eqb};
+ghost use lib.ListN.{set};
+ghost use lib.Signed.{leZ};
+ghost use Rattle.laws.specs.Sums.{sumBelow, only};
+ghost use Rattle.wide.specs.Value.{value};
+ghost use Rattle.laws.specs.Search.{every};
+ghost use Rattle.laws.specs.Bits.{isSet, withBit};
+ghost use Rattle.laws.specs.Checks.{unless, _then_};
+ghost use Rattle.book.specs.Limits.{maxFills};
+ghost use Rattle.book.specs.Book.{fillIn};
+ghost use Rattle.disclosure.specs.Disclosure.{maxBand};
+ghost use Rattle.events.specs.Events.{packed};
+ghost use Rattle.auction_engine.specs.Session.{fillAt, remake};
+ghost use Rattle.auction_engine.specs.Call as call;
+ghost use Rattle.auction_engine.specs.Settlement.{asSettled, settleEffect, settleEvents, skipEffect, movedVolume, printOf};
+ghost use Rattle.auction_engine.specs.Engine.{refusal, answer};
+use crate::Answer;
+use crate::Session;
+use crate::first_of;
+use crate::unless;
+use book::Fill;
+use events::Event;
+use events::Events;
+use events::Print;
+use wide::Wide;
+
+const DEADLINE: u8 = 4;
+
+impl Session {
+    // A fill has moved on the chain.
+    pub fn settle(self, fill: u32) -> Answer
+        ensures { λ r. ⌜ r ≡ answer self (call.settle fill) ⌝ }
+    {
+        let refusal = self.settle_refusal(fill);
+        if refusal != 0 {
+            return Answer::refused(self, refusal);
+        }
+        let at = fill as usize;
+        let events = self.settle_events(fill);
+        let mut session = self.mark_settled(at);
+        session.fills_settled = saturating_next(self.fills_settled);
+        Answer {
+            refusal: 0,
+            session,
+            events,
+        }
+    }
+
+    fn settle_refusal(self, fill: u32) -> u8
+        ensures { λ r. ⌜ r ≡ refusal self (call.settle fill) ⌝ }
+    {
+        let bad = self.checked();
+        if bad != 0 {
+            return bad;
+        }
+        let phase = unless(
+            crate::admits(self.phase, crate::SETTLE),
+            book::error::WRONG_PHASE,
+        );
+        first_of(phase, self.fill_refusal(fill as usize))
+    }
+
+    // 21 no fill; 23 settled.
+    fn fill_refusal(self, at: usize) -> u8
+        requires { ⌜ self .«fill_count» ≤ maxFills ⌝ }
+        ensures { λ r. ⌜ r ≡ unless (ltb at (self .«fill_count»)) 21 then unless (not (fillAt self at .settled)) 23 ⌝ }
+    {
+        if self.fill_count <= at {
+            return book::error::NO_FILL;
+        }
+        let f = self.fills[at];
+        unless(!f.settled, book::error::FILL_SETTLED)
+    }
+
+    fn mark_settled(self, at: usize) -> Session
+        requires { ⌜ at < maxFills ⌝ }
+        ensures { λ r. ⌜ r ≡ remake self (self .cleared) (self .phase) (self .«rofr_qty») (self .«fills_settled») (self .«skipped_fills») (self .orders)
+            (set (self .fills) at (asSettled (fillAt self at))) (self .«fill_count») ⌝ }
+    {
+        let mut f = self.fills[at];
+        f.settled = true;
+        let mut next = self;
+        next.fills[at] = f;
+        next
+    }
+
+    // Nothing is said of a fill that the issuer took whole.
+    fn settle_events(self, fill: u32) -> Events
+        requires { ⌜ fill < maxFills ⌝ }
+        ensures { λ r. ⌜ r ≡ packed (settleEvents self fill) ⌝ }
+    {
+        let at = fill as usize;
+        let f = self.fills[at];
+        let none = Events::none();
+        if f.qty == 0 {
+            return none;
+        }
+        none.push(Event::FillSettled {
+            fill,
+            qty: f.qty,
+            price: self.cleared.clear_price,
+        })
+    }
+
+    // A fill that fails the gate is retired: it counts as done, and nothing moves for it. The clock is not read.
+    pub fn skip_fill(self, now: i64, fill: u32, reason: u8) -> Answer
+        ensures { λ r. ⌜ r ≡ answer self (call.skip now fill reason) ⌝ }
+    {
+        let refusal = self.skip_refusal(now, fill, reason);
+        if refusal != 0 {
+            return Answer::refused(self, refusal);
+        }
+        let at = fill as usize;
+        let f = self.fills[at];
+        let none = Events::none();
+        let events = none.push(Event::FillSkipped {
+            fill,
+            qty: f.qty,
+            reason,
+        });
+        let mut session = self.mark_settled(at);
+        session.skipped_fills = with_bit(self.skipped_fills, fill);
+        Answer {
+            refusal: 0,
+            session,
+            events,
+        }
+    }
+
+    fn skip_refusal(self, now: i64, fill: u32, reason: u8) -> u8
+        ensures { λ r. ⌜ r ≡ refusal self (call.skip now fill reason) ⌝ }
+    {
+        let bad = self.checked();
+        if bad != 0 {
+            return bad;
+        }
+        let argument = unless(reason <= 6, book::error::BAD_FIELD);
+        let phase = unless(
+            crate::admits(self.phase, crate::SKIP),
+            book::error::WRONG_PHASE,
+        );
+        let no_fill = self.fill_refusal(fill as usize);
+        let passes = unless(0 < reason, book::error::FILL_SETTLEABLE);
+        first_of(argument, first_of(phase, first_of(no_fill, passes)))
+    }
+
+    // Every fill settled or skipped: the print. The clock is not read.
+    pub fn finish(self, now: i64) -> Answer
+        ensures { λ r. ⌜ r ≡ answer self (call.finish now) ⌝ }
+    {
+        let refusal = self.finish_refusal(now);
+        if refusal != 0 {
+            return Answer::refused(self, refusal);
+        }
+        let none = Events::none();
+        let print = none.push(Event::ClearingPrint(self.print_of()));
+        let events = print.push(Event::PhaseChanged {
+            from: self.phase,
+            to: crate::PRINTED,
+        });
+        let session = self.at_phase(crate::PRINTED);
+        Answer {
+            refusal: 0,
+            session,
+            events,
+        }
+    }
+
+    fn finish_refusal(self, now: i64) -> u8
+        ensures { λ r. ⌜ r ≡ refusal self (call.finish now) ⌝ }
+    {
+        let bad = self.checked();
+        if bad != 0 {
+            return bad;
+        }
+        let fills = self.fills;
+        let phase = unless(
+            crate::admits(self.phase, crate::FINISH),
+            book::error::WRONG_PHASE,
+        );
+        let pending = unless(
+            all_settled(fills, self.fill_count),
+            book::error::FILLS_PENDING,
+        );
+        let volume = moved_volume(fills, self.fill_count, self.skipped_fills);
+        let unfit = unless(wide::fits_word(volume), book::error::MATH_OVERFLOW);
+        first_of(phase, first_of(pending, unfit))
+    }
+
+    fn print_of(self) -> Print
+        requires { ⌜ (self .«fill_count» ≤ maxFills) × (self .given .«band_bps» ≤ maxBand) × (self .given .policy ≤ 3) × (movedVolume self < 2 ^ 64) ⌝ }
+        ensures { λ r. ⌜ r ≡ printOf self ⌝ }
+    {
+        let p = self.params;
+        let g = self.given;
+        let orders = self.orders;
+        let fills = self.fills;
+        let m = self.fill_count;
+        let skipped = self.skipped_fills;
+        let volume = moved_volume(fills, m, skipped);
+        let count = investors::participants::distinct_participants(
+            orders,
+            self.order_count,
+            fills,
+            m,
+            skipped,
+        );
+        let shown = disclosure::disclose(g.policy, g.band_bps, self.cleared.clear_price, volume.lo);
+        Print {
+            price: shown.price,
+            volume: shown.volume,
+            n_investor_ids: count,
+            forced_sale: p.forced,
+            policy: g.policy,
+            partial: skipped != 0,
+        }
+    }
+
+    // Past the deadline the session fails.
+    pub fn expire(self, now: i64) -> Answer
+        ensures { λ r. ⌜ r ≡ answer self (call.expire now) ⌝ }
+    {
+        let refusal = self.expire_refusal(now);
+        if refusal != 0 {
+            return Answer::refused(self, refusal);
+        }
+        let none = Events::none();
+        let failed = none.push(Event::SessionFailed(DEADLINE));
+        let events = failed.push(Event::PhaseChanged {
+            from: self.phase,
+            to: crate::FAILED,
+        });
+        let session = self.at_phase(crate::FAILED);
+        Answer {
+            refusal: 0,
+            session,
+            events,
+        }
+    }
+
+    fn expire_refusal(self, now: i64) -> u8
+        ensures { λ r. ⌜ r ≡ refusal self (call.expire now) ⌝ }
+    {
+        let bad = self.checked();
+        if bad != 0 {
+            return bad;
+        }
+        let p = self.params;
+        let phase = unless(
+            crate::admits(self.phase, crate::EXPIRE),
+            book::error::WRONG_PHASE,
+        );
+        let window = unless(
+            clock::not_before(now, p.settle_deadline),
+            book::error::OUTSIDE_WINDOW,
+        );
+        first_of(phase, window)
+    }
+}
+
+// One more, or the largest 32-bit number.
+fn saturating_next(n: u32) -> u32
+    ensures { λ r. ⌜ r ≡ min (n + 1) (2 ^ 32 - 1) ⌝ }
+{
+    if n < u32::MAX { n + 1 } else { n }
+}
+
+fn with_bit(word: u32, i: u32) -> u32
+    requires { ⌜ i < maxFills ⌝ }
+    ensures { λ r. ⌜ r ≡ withBit word i ⌝ }
+{
+    word | (1 << i)
+}
+
+fn all_settled(fills: [Fill; Session::MAX_FILLS], m: usize) -> bool
+    requires { ⌜ m ≤ maxFills ⌝ }
+    ensures { λ r. ⌜ r ≡ every (λ i. fillIn fills i .settled) m ⌝ }
+{
+    let mut i = 0;
+    while i < m {
+        let f = fills[i];
+        if !f.settled {
+            return false;
+        }
+        i += 1;
+    }
+    true
+}
+
+// What moved, in two words: the source checks the sum at 64 bits.
+fn moved_volume(fills: [Fill; Session::MAX_FILLS], m: usize, skipped: u32) -> Wide
+    requires { ⌜ m ≤ maxFills ⌝ }
+    ensures { λ r. ⌜ value r ≡ sumBelow (λ i. only (not (isSet skipped i)) (fillIn fills i .qty)) m ⌝ }
+{
+    let mut sum = wide::of_word(0);
+    let mut i = 0;
+    while i < m {
+        let f = fills[i];
+        sum = wide::add(sum, moved_qty(f, skipped, i));
+        i += 1;
+    }
+    sum
+}
+
+fn moved_qty(f: Fill, skipped: u32, i: usize) -> u64
+    requires { ⌜ i < maxFills ⌝ }
+    ensures { λ r. ⌜ r ≡ only (not (isSet skipped i)) (f .qty) ⌝ }
+{
+    if investors::participants::is_skipped(skipped, i as u32) {
+        return 0;
+    }
+    f.qty
+}
