@@ -47,3 +47,9 @@ pub then-assoc : (a b c : ℕ) → ((a then b) then c) ≡ (a then b then c)
 unfolding _then_
 then-assoc zero b c = refl
 then-assoc (suc a) b c = rw (eqb·suc-zero a, eqb·suc-zero a)
+
+-- nothing more to check
+pub then-nothing : (m : ℕ) → (m then 0) ≡ m
+unfolding _then_
+then-nothing zero = refl
+then-nothing (suc m) = rw (eqb·suc-zero m)

@@ -1,0 +1,45 @@
+-- The checks of an order in the two stages in which the code finds them, and the room that an accepted order has.
+-- Assumes nothing.
+use mathlib.Core.Path.{_≡_, sym, _∙_}
+use mathlib.Core.Logic.{_≢_}
+use mathlib.Core.Bool.{cond, not, _&&_}
+use Prim.Native.Nat.{ℕ, _<_}
+use lib.Dec.{ltb, leb, eqb}
+use borrow.Author.Tests.{ltb-true}
+use Rattle.laws.specs.Search.{some}
+use Rattle.laws.specs.Lists.{same}
+use Rattle.laws.specs.Checks.{unless, _then_}
+use Rattle.laws.proofs.Checks.{then-zero, then-stop, then-pass, then-assoc, unless-zero}
+use Rattle.credit_math.specs.Limits.{maxOrders}
+use Rattle.book.specs.declared.Row.{Row}
+use Rattle.auction_engine.specs.declared.Session.{Session}
+use Rattle.auction_engine.specs.Session.{orderAt}
+use Rattle.auction_engine.specs.Opening.{orderRefusal}
+
+module _ (s : Session) (row : Row) where
+  -- all but the owner, and the owner
+  abbrev pub rowChecks : ℕ
+  rowChecks =
+      unless (leb (row .side) 1) 4
+      then unless (ltb 0 (row .escrowed)) 6
+      then unless (cond (row .revealed) (ltb 0 (row .limit) && ltb 0 (row .qty)) (eqb (row .limit) 0 && eqb (row .qty) 0)) 6
+      then unless (ltb (s .«order_count») maxOrders) 7
+
+  abbrev pub ownerCheck : ℕ
+  ownerCheck = unless (not (some (λ i. same (orderAt s i .owner) (row .owner)) (s .«order_count»))) 8
+
+  in-stages : (rowChecks then ownerCheck) ≡ orderRefusal s row
+  unfolding orderRefusal
+  in-stages = rw (then-assoc, then-assoc, then-assoc)
+
+  pub row-stops : (n : ℕ) → n ≡ rowChecks → n ≢ 0 → n ≡ orderRefusal s row
+  row-stops n is z = then-stop n ownerCheck z ∙ rw is in-stages
+
+  pub owner-decides : (m n : ℕ) → m ≡ rowChecks → m ≡ 0 → n ≡ ownerCheck → n ≡ orderRefusal s row
+  owner-decides m n is z own = own ∙ then-pass rowChecks ownerCheck (sym is ∙ z) ∙ in-stages
+
+  pub row-room : rowChecks ≡ 0 → s .«order_count» < maxOrders
+  row-room z = ltb-true _ _ (unless-zero _ 6 (then-zero _ _ (then-zero _ _ (then-zero _ _ z .1) .1) .1))
+
+  pub order-room : orderRefusal s row ≡ 0 → s .«order_count» < maxOrders
+  order-room z = row-room (then-zero rowChecks ownerCheck (in-stages ∙ z) .0)

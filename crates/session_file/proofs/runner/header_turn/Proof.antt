@@ -1,0 +1,51 @@
+-- `session_file::runner::header_turn` meets its contract: the header's refusal ends the file, and an accepted one opens a session.
+-- Assumes nothing.
+use borrow.Author.Needs.{needs}
+use Rattle.session_file.specs.Records.{header}
+use Rattle.session_file.specs.Runner.{readRefusal}
+use Rattle.session_file.proofs.Turns.{took-stop, took-on}
+use Rattle.session_file.proofs.runner.header_turn.Statement.{statement}
+use Rattle.session_file.proofs.runner.header_turn.Tie as tie
+
+header-refusal-requires : tie.Need-header-refusal-requires
+header-refusal-requires c κs = search needs
+
+stop-requires : tie.Need-stop-requires
+stop-requires c κs = search needs
+
+returns : tie.Need-returns
+unfolding readRefusal
+returns c =
+    let a = c .before .before .before .args in
+    let h = c .before .before .header-refusal in
+    took-stop (header (a .p) (a .g)) (h .result) (h .ensures) (c .before .if1 .taken) (c .stop .ensures)
+
+new-requires : tie.Need-new-requires
+new-requires c κs = search needs
+
+opened-requires : tie.Need-opened-requires
+opened-requires c κs = search needs
+
+go-on-requires : tie.Need-go-on-requires
+go-on-requires c κs = search needs
+
+returns-2 : tie.Need-returns-2
+unfolding readRefusal
+returns-2 c =
+    let j = c .before .before .before .before .before in
+    let a = j .args in
+    let h = c .before .before .before .before .header-refusal in
+    took-on (header (a .p) (a .g)) (h .result) (h .ensures) (c .before .before .before .if1 .left) (c .before .opened .result)
+    (rw (← c .before .before .new .ensures) (c .go-on .ensures)) (c .before .opened .ensures)
+
+pub header-turn-spec : {M : Type 1} → statement M
+header-turn-spec =
+    tie.close
+    (tie.spec
+    header-refusal-requires
+    stop-requires
+    returns
+    new-requires
+    opened-requires
+    go-on-requires
+    returns-2)

@@ -1,0 +1,17 @@
+-- `session_file::runner::stop` meets its contract, from what a refused record is.
+-- Assumes nothing.
+use borrow.Author.Needs.{needs}
+use Rattle.session_file.proofs.runner.stop.Statement.{statement}
+use Rattle.session_file.proofs.runner.stop.Tie as tie
+
+refused-requires : tie.Need-refused-requires
+refused-requires c κs = search needs
+
+go-on-requires : tie.Need-go-on-requires
+go-on-requires c κs = search needs
+
+returns : tie.Need-returns
+returns c = rw (c .go-on .ensures) (search needs, c .before .refused .ensures)
+
+pub stop-spec : {M : Type 1} → statement M
+stop-spec = tie.close (tie.spec refused-requires go-on-requires returns)

@@ -1,0 +1,108 @@
+// The call that a record says: a match over its mark chooses the reader.
+ghost use mathlib.Core.Path.{_≡_};
+ghost use Prim.Native.Nat.{ℕ, _≤_};
+ghost use Rattle.auction_engine.specs.Engine.{callOf};
+ghost use Rattle.auction_engine.specs.Call as call;
+ghost use Rattle.session_file.specs.Bytes.{word, bytesAt, timeAt, flagAt};
+ghost use Rattle.session_file.specs.Calls.{blankCall, CallRead, Says};
+use crate::bytes;
+use crate::records::Mark;
+use auction_engine::CallRecord;
+
+// Of a mark that is no call's, the blank call.
+pub fn read_call(m: Mark, rec: &[u8]) -> CallRecord
+    ensures { λ r. ⌜ CallRead m (now (rec .entry)) r ⌝ }
+{
+    match m {
+        Mark::Unknown => blank(0, 0),
+        Mark::SH => blank(0, 0),
+        Mark::OR => blank(0, 0),
+        Mark::SC => read_screen(rec),
+        Mark::CL => blank(auction_engine::CLEAR, bytes::time_at(rec, 2)),
+        Mark::AL => read_allocate(rec),
+        Mark::RX => read_exercise(rec),
+        Mark::RC => read_close(rec),
+        Mark::ST => read_settle(rec),
+        Mark::SK => read_skip(rec),
+        Mark::FN => blank(auction_engine::FINISH, bytes::time_at(rec, 2)),
+        Mark::EX => blank(auction_engine::EXPIRE, bytes::time_at(rec, 2)),
+    }
+}
+
+// A call of a kind at a time, with no other argument.
+fn blank(kind: u8, now: i64) -> CallRecord
+    ensures { λ r. ⌜ r ≡ blankCall kind now ⌝ }
+{
+    CallRecord {
+        kind,
+        now,
+        order: 0,
+        side: 0,
+        verdict: 0,
+        has_id: false,
+        id: [0; 16],
+        max_fills: 0,
+        wallet: [0; 32],
+        fill: 0,
+        qty: 0,
+        reason: 0,
+    }
+}
+
+fn read_screen(rec: &[u8]) -> CallRecord
+    ensures { λ r. ⌜ Says r 0 (call.screen (timeAt (now (rec .entry)) 2) (word 1 (now (rec .entry)) 10) (word 1 (now (rec .entry)) 11) (word 1 (now (rec .entry)) 12) (flagAt (now (rec .entry)) 13) (bytesAt 16 (now (rec .entry)) 14)) ⌝ }
+{
+    let id = bytes::id_at(rec, 14);
+    let mut c = blank(auction_engine::SCREEN, bytes::time_at(rec, 2));
+    c.order = bytes::u8_at(rec, 10);
+    c.side = bytes::u8_at(rec, 11);
+    c.verdict = bytes::u8_at(rec, 12);
+    c.has_id = bytes::flag_at(rec, 13);
+    c.id = id;
+    c
+}
+
+fn read_allocate(rec: &[u8]) -> CallRecord
+    ensures { λ r. ⌜ Says r 2 (call.allocate (timeAt (now (rec .entry)) 2) (word 1 (now (rec .entry)) 10)) ⌝ }
+{
+    let mut c = blank(auction_engine::ALLOCATE, bytes::time_at(rec, 2));
+    c.max_fills = bytes::u8_at(rec, 10);
+    c
+}
+
+fn read_exercise(rec: &[u8]) -> CallRecord
+    ensures { λ r. ⌜ Says r 3 (call.exercise (timeAt (now (rec .entry)) 2) (bytesAt 32 (now (rec .entry)) 10) (word 4 (now (rec .entry)) 42) (word 8 (now (rec .entry)) 46)) ⌝ }
+{
+    let issuer = bytes::key_at(rec, 10);
+    let mut c = blank(auction_engine::EXERCISE, bytes::time_at(rec, 2));
+    c.wallet = issuer;
+    c.fill = bytes::u32_at(rec, 42);
+    c.qty = bytes::u64_at(rec, 46);
+    c
+}
+
+fn read_close(rec: &[u8]) -> CallRecord
+    ensures { λ r. ⌜ Says r 4 (call.close (timeAt (now (rec .entry)) 2) (bytesAt 32 (now (rec .entry)) 10)) ⌝ }
+{
+    let caller = bytes::key_at(rec, 10);
+    let mut c = blank(auction_engine::CLOSE, bytes::time_at(rec, 2));
+    c.wallet = caller;
+    c
+}
+
+fn read_settle(rec: &[u8]) -> CallRecord
+    ensures { λ r. ⌜ Says r 5 (call.settle (word 4 (now (rec .entry)) 2)) ⌝ }
+{
+    let mut c = blank(auction_engine::SETTLE, 0);
+    c.fill = bytes::u32_at(rec, 2);
+    c
+}
+
+fn read_skip(rec: &[u8]) -> CallRecord
+    ensures { λ r. ⌜ Says r 6 (call.skip (timeAt (now (rec .entry)) 2) (word 4 (now (rec .entry)) 10) (word 1 (now (rec .entry)) 14)) ⌝ }
+{
+    let mut c = blank(auction_engine::SKIP, bytes::time_at(rec, 2));
+    c.fill = bytes::u32_at(rec, 10);
+    c.reason = bytes::u8_at(rec, 14);
+    c
+}

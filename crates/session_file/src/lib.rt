@@ -1,0 +1,98 @@
+// Session files: read record by record, run, and listed.
+ghost use mathlib.Core.Path.{_≡_};
+ghost use Prim.Native.Nat.{ℕ, _+_, _<_, _≤_};
+ghost use lib.ListN.{length, replicate};
+ghost use Rattle.listing.specs.Writing.{Writes};
+ghost use Rattle.session_file.specs.File.{maxInput, lastLine, listingFrom};
+ghost use Rattle.session_file.specs.Runner.{start};
+ghost use Rattle.session_file.specs.Entry.{Listed, Entered, Ran};
+use crate::runner::Runner;
+use listing::Written;
+
+pub mod bytes;
+pub mod calls;
+pub mod opening;
+pub mod records;
+pub mod runner;
+
+// The longest file.
+pub const MAX_INPUT: usize = 65536;
+
+// 26: the input is above that.
+pub const INPUT_TOO_LONG: u8 = 26;
+
+// The listing of a file at the start of the output, and its length; or 26 or 27, and the whole output zeroed.
+pub fn list_file(input: &[u8], out: &mut [u8]) -> Written
+    ensures { λ r. ⌜ Listed (now (input .entry)) r (now (out .entry)) (now (out .exit)) ⌝ }
+{
+    if MAX_INPUT < input.len() {
+        zero(out);
+        return Written {
+            refusal: INPUT_TOO_LONG,
+            len: 0,
+        };
+    }
+    let written = run_file(input, out);
+    if written.refusal != 0 {
+        zero(out);
+    }
+    written
+}
+
+// The same for a host in C or Rust: the length, or the refusal negated.
+#[no_mangle]
+pub extern "C" fn clear_session_file(input: &[u8], out: &mut [u8]) -> i64
+    ensures { λ r. ⌜ Entered (now (input .entry)) r (now (out .entry)) (now (out .exit)) ⌝ }
+{
+    let written = list_file(input, out);
+    if written.refusal != 0 {
+        return -(written.refusal as i64);
+    }
+    written.len as i64
+}
+
+// The records in turn, each record's lines in the part after those already there.
+fn run_file(input: &[u8], out: &mut [u8]) -> Written
+    requires { ⌜ length (now input) ≤ maxInput ⌝ }
+    ensures { λ r. ⌜ Ran (now (input .entry)) r (now (out .entry)) (now (out .exit)) ⌝ }
+{
+    let mut r = runner::begin();
+    let mut number: u64 = 0;
+    let mut at = 0;
+    while r.at < input.len() {
+        let t = runner::next_turn(r, input);
+        let said = t.said;
+        let written = listing::put_record(&mut out[at..], number, said);
+        if written.refusal != 0 {
+            return written;
+        }
+        at = at + written.len;
+        number = number + 1;
+        r = t.runner;
+    }
+    let last = put_last(&mut out[at..], r);
+    if last.refusal != 0 {
+        return last;
+    }
+    Written {
+        refusal: 0,
+        len: at + last.len,
+    }
+}
+
+fn put_last(out: &mut [u8], r: Runner) -> Written
+    ensures { λ w. ⌜ Writes (lastLine r) w (now (out .entry)) (now (out .exit)) ⌝ }
+{
+    let s = r.session;
+    listing::put_end(out, r.stage != 0, s.phase, s.skipped_fills)
+}
+
+fn zero(out: &mut [u8])
+    ensures { λ _. ⌜ now (out .exit) ≡ replicate (length (now (out .entry))) 0 ⌝ }
+{
+    let mut i = 0;
+    while i < out.len() {
+        out[i] = 0;
+        i += 1;
+    }
+}

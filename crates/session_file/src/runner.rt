@@ -1,0 +1,202 @@
+// A file's records in turn.
+ghost use mathlib.Core.Path.{_≡_};
+ghost use mathlib.Core.Bool.{Bool, true, false, cond};
+ghost use Prim.Native.Nat.{ℕ, _+_, _<_, _≤_};
+ghost use lib.ListN.{length, drop};
+ghost use Rattle.listing.specs.Lines.{said};
+ghost use Rattle.listing.specs.Lines as lines;
+ghost use Rattle.auction_engine.specs.Engine.{callOf};
+ghost use Rattle.session_file.specs.Records.{header, order, call};
+ghost use Rattle.session_file.specs.Runner.{start, saidOf, TurnOf, Took};
+use crate::bytes;
+use crate::calls;
+use crate::opening;
+use crate::records;
+use auction_engine::Answer;
+use auction_engine::CallRecord;
+use auction_engine::Session;
+use book::Given;
+use book::Params;
+use book::Row;
+use events::Events;
+use listing::Record;
+
+// How far a file was read, and the session there.
+pub struct Runner {
+    // Before the header 0, among the orders 1, among the calls 2.
+    pub stage: u8,
+    pub session: Session,
+    pub at: usize,
+}
+
+// A record: the runner after it, and what is said of it.
+pub struct Turn {
+    pub runner: Runner,
+    pub said: Record,
+}
+
+// Before the first record.
+pub fn begin() -> Runner
+    ensures { λ r. ⌜ r ≡ start ⌝ }
+{
+    let params = Params {
+        reveal_end: 0,
+        rofr_window: 0,
+        settle_deadline: 0,
+        max_cash: 0,
+        min_reveals: 0,
+        forced: false,
+        rofr_authority: [0; 32],
+    };
+    let given = Given {
+        mark: false,
+        reserve: 0,
+        reference: 0,
+        policy: 0,
+        band_bps: 0,
+    };
+    let session = Session::new(params, given);
+    Runner {
+        stage: 0,
+        session,
+        at: 0,
+    }
+}
+
+// The next record: what it makes of the runner, and what is said of it.
+pub fn next_turn(r: Runner, input: &[u8]) -> Turn
+    ensures { λ t. ⌜ TurnOf (now (input .entry)) r t ⌝ }
+{
+    let at = r.at;
+    let end = input.len();
+    let rec = rest_of(input, at);
+    let refusal = records::record_refusal(rec, r.stage);
+    if refusal != 0 {
+        return stop(r, end, refusal);
+    }
+    let m = records::mark_of(bytes::u16_at(rec, 0));
+    let next = at + records::width_of(m);
+    let kind = records::kind_of(m);
+    match kind {
+        1 => header_turn(
+            r,
+            end,
+            next,
+            records::params_of(rec),
+            records::given_of(rec),
+        ),
+        2 => order_turn(r, end, next, records::row_of(rec)),
+        _ => call_turn(r, end, next, calls::read_call(m, rec)),
+    }
+}
+
+// What is left of a file, from a place on.
+fn rest_of(input: &[u8], at: usize) -> &[u8]
+    ensures { λ r. ⌜ now r ≡ drop at (now (input .entry)) ⌝ }
+{
+    if at <= input.len() {
+        return &input[at..];
+    }
+    let end = input.len();
+    &input[end..]
+}
+
+fn header_turn(r: Runner, end: usize, next: usize, p: Params, g: Given) -> Turn
+    ensures { λ t. ⌜ Took r end next (header p g) t ⌝ }
+{
+    let refusal = opening::header_refusal(p, g);
+    if refusal != 0 {
+        return stop(r, end, refusal);
+    }
+    go_on(1, Session::new(p, g), next, opened())
+}
+
+fn order_turn(r: Runner, end: usize, next: usize, row: Row) -> Turn
+    ensures { λ t. ⌜ Took r end next (order row) t ⌝ }
+{
+    let s = r.session;
+    let refusal = opening::order_refusal(s, row);
+    if refusal != 0 {
+        return stop(r, end, refusal);
+    }
+    let number = s.order_count as u64;
+    go_on(1, opening::with_order(s, row), next, ordered(number))
+}
+
+// A call: refused or not, the file goes on.
+fn call_turn(r: Runner, end: usize, next: usize, c: CallRecord) -> Turn
+    requires { ⌜ c .kind ≤ 8 ⌝ }
+    ensures { λ t. ⌜ Took r end next (call (callOf c)) t ⌝ }
+{
+    let refusal = auction_engine::arguments_refusal(c);
+    if refusal != 0 {
+        return stop(r, end, refusal);
+    }
+    let s = r.session;
+    let a = s.apply(c);
+    let session = a.session;
+    go_on(2, session, next, answered(a))
+}
+
+fn go_on(stage: u8, session: Session, at: usize, what: Record) -> Turn
+    ensures { λ t. ⌜ t ≡ record { runner = record { stage = stage; session = session; at = at }; said = what } ⌝ }
+{
+    let runner = Runner { stage, session, at };
+    Turn { runner, said: what }
+}
+
+// A record that ends the file: nothing after it is read.
+fn stop(r: Runner, end: usize, refusal: u8) -> Turn
+    ensures { λ t. ⌜ (t .runner ≡ record { stage = r .stage; session = r .session; at = end }) × (said (t .said) ≡ lines.refused refusal) ⌝ }
+{
+    let session = r.session;
+    go_on(r.stage, session, end, refused(refusal))
+}
+
+fn opened() -> Record
+    ensures { λ r. ⌜ said r ≡ lines.opened ⌝ }
+{
+    let events = Events::none();
+    Record {
+        kind: 0,
+        figure: 0,
+        events,
+    }
+}
+
+fn ordered(number: u64) -> Record
+    ensures { λ r. ⌜ said r ≡ lines.ordered number ⌝ }
+{
+    let events = Events::none();
+    Record {
+        kind: 1,
+        figure: number,
+        events,
+    }
+}
+
+pub fn refused(refusal: u8) -> Record
+    ensures { λ r. ⌜ said r ≡ lines.refused refusal ⌝ }
+{
+    let events = Events::none();
+    Record {
+        kind: 2,
+        figure: refusal as u64,
+        events,
+    }
+}
+
+// What a call answered.
+fn answered(a: Answer) -> Record
+    ensures { λ r. ⌜ said r ≡ saidOf a ⌝ }
+{
+    if a.refusal != 0 {
+        return refused(a.refusal);
+    }
+    let events = a.events;
+    Record {
+        kind: 3,
+        figure: 0,
+        events,
+    }
+}
