@@ -1,0 +1,63 @@
+-- `single_calls::image::fills_in` is safe and ends. The loop: `i` is at most the number of fills.
+-- Assumes nothing.
+use Prim.Native.Nat.{_≤_, _-_}
+use borrow.Author.Needs.{needs}
+use Rattle.single_calls.proofs.image.fills_in.Statement.{statement}
+use Rattle.single_calls.proofs.image.fills_in.Tie as tie
+
+abbrev Inv-loop : tie.InvT-loop
+Inv-loop block fills₀ i₀ fills i = i ≤ 24
+
+abbrev μ-loop : tie.MeasureT-loop
+μ-loop block fills₀ i₀ fills i = 24 - i
+
+empty-requires : tie.Need-empty-requires Inv-loop μ-loop
+empty-requires c κs = search needs
+
+loop-holds : tie.Need-loop-holds Inv-loop μ-loop
+loop-holds c = search needs
+
+mul-fill-in : tie.Need-mul-fill-in Inv-loop μ-loop
+mul-fill-in c = search needs
+
+add-fill-in : tie.Need-add-fill-in Inv-loop μ-loop
+add-fill-in c = search needs
+
+fill-in-requires : tie.Need-fill-in-requires Inv-loop μ-loop
+fill-in-requires c κs = search needs
+
+mul-fills : tie.Need-mul-fills Inv-loop μ-loop
+mul-fills c = search needs
+
+array-set-from-fills : tie.Need-array-set-from-fills Inv-loop μ-loop
+array-set-from-fills c = search needs
+
+add-i : tie.Need-add-i Inv-loop μ-loop
+add-i c = search needs
+
+loop-less : tie.Need-loop-less Inv-loop μ-loop
+loop-less c = search needs
+
+loop-again : tie.Need-loop-again Inv-loop μ-loop
+loop-again c = search needs
+
+returns : tie.Need-returns Inv-loop μ-loop
+returns c = search needs
+
+pub fills-in-spec : {M : Type 1} → statement M
+fills-in-spec =
+    tie.close
+    (tie.spec
+    Inv-loop
+    μ-loop
+    empty-requires
+    loop-holds
+    mul-fill-in
+    add-fill-in
+    fill-in-requires
+    mul-fills
+    array-set-from-fills
+    add-i
+    loop-less
+    loop-again
+    returns)

@@ -1,0 +1,63 @@
+-- `single_calls::image::orders_in` is safe and ends. The loop: `i` is at most the number of orders.
+-- Assumes nothing.
+use Prim.Native.Nat.{_≤_, _-_}
+use borrow.Author.Needs.{needs}
+use Rattle.single_calls.proofs.image.orders_in.Statement.{statement}
+use Rattle.single_calls.proofs.image.orders_in.Tie as tie
+
+abbrev Inv-loop : tie.InvT-loop
+Inv-loop block orders₀ i₀ orders i = i ≤ 16
+
+abbrev μ-loop : tie.MeasureT-loop
+μ-loop block orders₀ i₀ orders i = 16 - i
+
+empty-requires : tie.Need-empty-requires Inv-loop μ-loop
+empty-requires c κs = search needs
+
+loop-holds : tie.Need-loop-holds Inv-loop μ-loop
+loop-holds c = search needs
+
+mul-order-in : tie.Need-mul-order-in Inv-loop μ-loop
+mul-order-in c = search needs
+
+add-order-in : tie.Need-add-order-in Inv-loop μ-loop
+add-order-in c = search needs
+
+order-in-requires : tie.Need-order-in-requires Inv-loop μ-loop
+order-in-requires c κs = search needs
+
+mul-orders : tie.Need-mul-orders Inv-loop μ-loop
+mul-orders c = search needs
+
+array-set-from-orders : tie.Need-array-set-from-orders Inv-loop μ-loop
+array-set-from-orders c = search needs
+
+add-i : tie.Need-add-i Inv-loop μ-loop
+add-i c = search needs
+
+loop-less : tie.Need-loop-less Inv-loop μ-loop
+loop-less c = search needs
+
+loop-again : tie.Need-loop-again Inv-loop μ-loop
+loop-again c = search needs
+
+returns : tie.Need-returns Inv-loop μ-loop
+returns c = search needs
+
+pub orders-in-spec : {M : Type 1} → statement M
+orders-in-spec =
+    tie.close
+    (tie.spec
+    Inv-loop
+    μ-loop
+    empty-requires
+    loop-holds
+    mul-order-in
+    add-order-in
+    order-in-requires
+    mul-orders
+    array-set-from-orders
+    add-i
+    loop-less
+    loop-again
+    returns)

@@ -1,0 +1,136 @@
+// A session and a call, read from a block of bytes.
+use auction_engine::CallRecord;
+use auction_engine::Cleared;
+use auction_engine::Session;
+use book::Fill;
+use book::Given;
+use book::Order;
+use book::Params;
+use session_file::bytes;
+ghost use Prim.Native.Nat.{_≤_};
+
+pub fn session_in(block: &[u8]) -> Session {
+    let params = params_in(block);
+    let given = given_in(block);
+    let cleared = cleared_in(block);
+    let orders = orders_in(block);
+    let fills = fills_in(block);
+    Session {
+        params,
+        given,
+        cleared,
+        phase: bytes::u8_at(block, 92),
+        rofr_qty: bytes::u64_at(block, 125),
+        fills_settled: bytes::u32_at(block, 133),
+        skipped_fills: bytes::u32_at(block, 137),
+        orders,
+        order_count: bytes::u8_at(block, 141) as usize,
+        fills,
+        fill_count: bytes::u8_at(block, 1614) as usize,
+    }
+}
+
+fn params_in(block: &[u8]) -> Params {
+    let rofr_authority = bytes::key_at(block, 34);
+    Params {
+        reveal_end: bytes::time_at(block, 0),
+        rofr_window: bytes::time_at(block, 8),
+        settle_deadline: bytes::time_at(block, 16),
+        max_cash: bytes::u64_at(block, 24),
+        min_reveals: bytes::u8_at(block, 32),
+        forced: bytes::flag_at(block, 33),
+        rofr_authority,
+    }
+}
+
+fn given_in(block: &[u8]) -> Given {
+    Given {
+        mark: bytes::flag_at(block, 66),
+        reserve: bytes::u64_at(block, 67),
+        reference: bytes::u64_at(block, 75),
+        policy: bytes::u8_at(block, 83),
+        band_bps: bytes::u64_at(block, 84),
+    }
+}
+
+fn cleared_in(block: &[u8]) -> Cleared {
+    Cleared {
+        clear_price: bytes::u64_at(block, 93),
+        cleared_volume: bytes::u64_at(block, 101),
+        reserve_price: bytes::u64_at(block, 109),
+        reference_mark: bytes::u64_at(block, 117),
+    }
+}
+
+fn orders_in(block: &[u8]) -> [Order; 16] {
+    let mut orders = [Order::empty(); 16];
+    let mut i = 0;
+    while i < 16 {
+        orders[i] = order_in(block, 142 + 92 * i);
+        i += 1;
+    }
+    orders
+}
+
+fn order_in(block: &[u8], at: usize) -> Order
+    requires { ⌜ at ≤ 4096 ⌝ }
+{
+    let owner = bytes::key_at(block, at);
+    let investor_id = bytes::id_at(block, at + 76);
+    Order {
+        owner,
+        side: bytes::u8_at(block, at + 32),
+        escrowed: bytes::u64_at(block, at + 33),
+        revealed: bytes::flag_at(block, at + 41),
+        limit: bytes::u64_at(block, at + 42),
+        qty: bytes::u64_at(block, at + 50),
+        alloc: bytes::u64_at(block, at + 58),
+        alloc_left: bytes::u64_at(block, at + 66),
+        screened: bytes::flag_at(block, at + 74),
+        eligible: bytes::flag_at(block, at + 75),
+        investor_id,
+    }
+}
+
+fn fills_in(block: &[u8]) -> [Fill; 24] {
+    let mut fills = [Fill::empty(); 24];
+    let mut i = 0;
+    while i < 24 {
+        fills[i] = fill_in(block, 1615 + 74 * i);
+        i += 1;
+    }
+    fills
+}
+
+fn fill_in(block: &[u8], at: usize) -> Fill
+    requires { ⌜ at ≤ 4096 ⌝ }
+{
+    let buyer = bytes::key_at(block, at);
+    let seller = bytes::key_at(block, at + 32);
+    Fill {
+        buyer,
+        seller,
+        qty: bytes::u64_at(block, at + 64),
+        rofr: bytes::flag_at(block, at + 72),
+        settled: bytes::flag_at(block, at + 73),
+    }
+}
+
+pub fn call_in(block: &[u8]) -> CallRecord {
+    let id = bytes::id_at(block, 3403);
+    let wallet = bytes::key_at(block, 3420);
+    CallRecord {
+        kind: bytes::u8_at(block, 3391),
+        now: bytes::time_at(block, 3392),
+        order: bytes::u8_at(block, 3400),
+        side: bytes::u8_at(block, 3401),
+        verdict: bytes::u8_at(block, 3402),
+        has_id: bytes::flag_at(block, 3465),
+        id,
+        max_fills: bytes::u8_at(block, 3419),
+        wallet,
+        fill: bytes::u32_at(block, 3452),
+        qty: bytes::u64_at(block, 3456),
+        reason: bytes::u8_at(block, 3464),
+    }
+}
