@@ -3,9 +3,10 @@
 
 usage: harness/make_replay.py ORACLE > crates/replay/stdin
 
-ORACLE is the oracle's program, harness/target/release/oracle. The list has the files of examples/, courses that the source itself steers, each damaged in some ways, and the
-limits: no byte, one byte, every cut of a file, sixteen and seventeen orders, twenty-four fills, thousands of records, and files of 65,535, 65,536
-and 65,537 bytes.
+ORACLE is the oracle's program, harness/target/release/oracle. The list has the files of examples/, courses that the source
+itself steers, each damaged in some ways, and the limits: no byte, one byte, every seventh cut of a file, sixteen and
+seventeen orders, twenty-four fills, thousands of records, and files of 65,535, 65,536 and 65,537 bytes. The seed is one
+whose list has every refusal that a file can have.
 """
 import glob
 import os
@@ -21,7 +22,7 @@ sys.path.insert(0, os.path.join(top, "examples"))
 sys.dont_write_bytecode = True
 import make  # noqa: E402
 
-SEED, COURSES, SHORT = 20261115, 120, 3000
+SEED, COURSES, SHORT = 20261117, 140, 3000
 random.seed(SEED)
 
 

@@ -1,36 +1,52 @@
-//! `functions ORACLE [--seed S] [--cases N]`: the price search and pro-rata against the source, one answer after the other.
-//! ORACLE is the program that runs the published source; it reads a case a line (`--functions`).
-mod cases;
+//! `functions [--seed S] [--cases N]`: the price search and pro-rata through the published source and through ours, one answer after
+//! the other.
+mod case;
 mod ours;
 
-use cases::{Case, Random};
+use case::Case;
+use oracle::random::Random;
+use oracle::MAX_ORDERS;
 use std::collections::BTreeMap;
-use std::io::{BufRead, BufReader, BufWriter, Write};
-use std::process::{exit, Command, Stdio};
-use std::thread;
+use std::process::exit;
 
-fn answer(case: &Case) -> String {
-    match case {
-        Case::Price { is_buy, limits, qtys, reserve, reference } => {
-            ours::price(is_buy, limits, qtys, *reserve, *reference)
-        }
-        Case::ProRata { total, ids, qtys } => ours::pro_rata(*total, ids, qtys, qtys.len()),
+fn main() {
+    let args: Vec<String> = std::env::args().collect();
+    let value = |name: &str, or: u64| args.iter().position(|a| a == name).map_or(or, |i| args[i + 1].parse().expect("a number"));
+    let (seed, count) = (value("--seed", 1), value("--cases", 300_000));
+    let different = compare(&mut Random(seed), count);
+    let mut r = Random(seed);
+    let refused = (0..1000).all(|_| unequal_lengths_are_refused(&mut r));
+    println!("unequal lengths: {}", if refused { "refused with 30" } else { "NOT refused with 30" });
+    println!("{count} cases, {different} different");
+    if different != 0 || !refused {
+        exit(1);
     }
 }
 
-/// Slices of unequal length, which the source cannot be given: each must be refused with 30.
-fn unequal(r: &mut Random) -> bool {
-    let n = r.below(17) as usize;
-    let m = (n + 1 + r.below(16) as usize) % 17;
-    let (short, long) = (vec![1; n], vec![1; m]);
-    let sides = vec![true; n];
-    let all = [
-        ours::price(&sides, &long, &short, 0, 0),
-        ours::price(&sides, &short, &long, 0, 0),
-        ours::pro_rata(0, &long, &short, n),
-        ours::pro_rata(0, &short, &short, m),
-    ];
-    all.iter().all(|a| a == "refused 30")
+/// Shows how often each kind of answer was seen and the first differences.
+fn compare(r: &mut Random, count: u64) -> u64 {
+    let mut seen = BTreeMap::new();
+    let mut different = 0;
+    for _ in 0..count {
+        let case = Case::any(r);
+        let (source, ours) = (oracle::functions::answer(&case.words()), answer(&case));
+        *seen.entry(kind(&case, &source)).or_insert(0u64) += 1;
+        if source != ours {
+            different += 1;
+            if different <= 5 {
+                println!("{}\n  source: {source}\n  ours:   {ours}", case.words());
+            }
+        }
+    }
+    seen.iter().for_each(|(what, n)| println!("{n:8} {what}"));
+    different
+}
+
+fn answer(case: &Case) -> String {
+    match case {
+        Case::Price { is_buy, limits, qtys, reserve, reference } => ours::price(is_buy, limits, qtys, *reserve, *reference),
+        Case::ProRata { total, ids, qtys } => ours::pro_rata(*total, ids, qtys, qtys.len()),
+    }
 }
 
 /// What kind of answer it is, for the counts.
@@ -43,51 +59,17 @@ fn kind(case: &Case, text: &str) -> String {
     format!("{name} {what}")
 }
 
-fn main() {
-    let args: Vec<String> = std::env::args().collect();
-    let value = |name: &str, or: u64| {
-        args.iter().position(|a| a == name).map_or(or, |i| args[i + 1].parse().expect("a number"))
-    };
-    let (seed, count) = (value("--seed", 1), value("--cases", 200_000));
-    let oracle = args.get(1).filter(|a| !a.starts_with("--")).expect("the oracle's path comes first");
-    let mut child = Command::new(oracle)
-        .arg("--functions")
-        .stdin(Stdio::piped())
-        .stdout(Stdio::piped())
-        .spawn()
-        .expect("the oracle starts");
-    let mut input = BufWriter::new(child.stdin.take().expect("its input"));
-    let writer = thread::spawn(move || {
-        let mut r = Random(seed);
-        for _ in 0..count {
-            writeln!(input, "{}", cases::case(&mut r).line()).expect("the oracle reads");
-        }
-    });
-    let mut r = Random(seed);
-    let mut seen = BTreeMap::new();
-    let mut different = 0;
-    for line in BufReader::new(child.stdout.take().expect("its output")).lines() {
-        let case = cases::case(&mut r);
-        let (theirs, mine) = (line.expect("a line"), answer(&case));
-        *seen.entry(kind(&case, &mine)).or_insert(0u64) += 1;
-        if theirs != mine {
-            different += 1;
-            if different <= 5 {
-                println!("{}\n  source: {theirs}\n  ours:   {mine}", case.line());
-            }
-        }
-    }
-    writer.join().expect("every case was written");
-    child.wait().expect("the oracle ends");
-    let total: u64 = seen.values().sum();
-    for (what, n) in &seen {
-        println!("{n:8} {what}");
-    }
-    let mut r = Random(seed);
-    let refused = (0..1000).all(|_| unequal(&mut r));
-    println!("unequal lengths: {}", if refused { "refused with 30" } else { "NOT refused with 30" });
-    println!("{total} cases, {different} different");
-    if total != count || different != 0 || !refused {
-        exit(1);
-    }
+/// Slices of unequal length, which the source cannot be given.
+fn unequal_lengths_are_refused(r: &mut Random) -> bool {
+    let n = r.below(MAX_ORDERS as u64 + 1) as usize;
+    let m = (n + 1 + r.below(MAX_ORDERS as u64) as usize) % (MAX_ORDERS + 1);
+    let (one, other) = (vec![1; n], vec![1; m]);
+    let sides = vec![true; n];
+    let all = [
+        ours::price(&sides, &other, &one, 0, 0),
+        ours::price(&sides, &one, &other, 0, 0),
+        ours::pro_rata(0, &other, &one, n),
+        ours::pro_rata(0, &one, &one, m),
+    ];
+    all.iter().all(|a| a == "refused 30")
 }

@@ -1,4 +1,4 @@
-//! The entries of the static library, behind safe functions.
+//! The entries of the static library `harness_entries`, behind safe functions that answer in the oracle's words.
 
 #[repr(C)]
 struct Figures {
@@ -31,48 +31,30 @@ extern "C" {
     ) -> u8;
 }
 
-/// The answer in the oracle's words.
 pub fn price(is_buy: &[bool], limits: &[u64], qtys: &[u64], reserve: u64, reference: u64) -> String {
-    let f = unsafe {
-        entry_find_uniform_clear_price(
-            is_buy.as_ptr(),
-            is_buy.len(),
-            limits.as_ptr(),
-            limits.len(),
-            qtys.as_ptr(),
-            qtys.len(),
-            reserve,
-            reference,
-        )
-    };
-    if f.refusal != 0 {
-        return format!("refused {}", f.refusal);
+    let (sides, sides_len) = (is_buy.as_ptr(), is_buy.len());
+    let (limits, limits_len) = (limits.as_ptr(), limits.len());
+    let (qtys, qtys_len) = (qtys.as_ptr(), qtys.len());
+    // Each pointer goes with its slice's length, and the entry reads no further.
+    let f = unsafe { entry_find_uniform_clear_price(sides, sides_len, limits, limits_len, qtys, qtys_len, reserve, reference) };
+    match (f.refusal, f.crosses) {
+        (0, true) => format!("{} {}", f.price, u128::from(f.volume_hi) << 64 | u128::from(f.volume_lo)),
+        (0, false) => "NoCross".to_string(),
+        (number, _) => format!("refused {number}"),
     }
-    if !f.crosses {
-        return "NoCross".to_string();
-    }
-    let volume = u128::from(f.volume_hi) << 64 | u128::from(f.volume_lo);
-    format!("{} {}", f.price, volume)
 }
 
-/// The lots in the oracle's words; a refusal must leave the output as it was.
+/// The lots, in an output with room for so many; a refusal must leave it as it was.
 pub fn pro_rata(total: u64, ids: &[u64], qtys: &[u64], room: usize) -> String {
     const MARK: u64 = 0x5eed_5eed_5eed_5eed;
     let mut out = vec![MARK; room];
-    let refusal = unsafe {
-        entry_allocate_pro_rata(
-            total,
-            ids.as_ptr(),
-            ids.len(),
-            qtys.as_ptr(),
-            qtys.len(),
-            out.as_mut_ptr(),
-            out.len(),
-        )
-    };
-    if refusal != 0 {
-        let touched = out.iter().any(|&x| x != MARK);
-        return format!("refused {refusal}{}", if touched { ", output touched" } else { "" });
+    let (ids, ids_len) = (ids.as_ptr(), ids.len());
+    let (qtys, qtys_len) = (qtys.as_ptr(), qtys.len());
+    // As above; the output is lent for the call alone.
+    let refusal = unsafe { entry_allocate_pro_rata(total, ids, ids_len, qtys, qtys_len, out.as_mut_ptr(), room) };
+    if refusal == 0 {
+        return out.iter().map(u64::to_string).collect::<Vec<_>>().join(" ");
     }
-    out.iter().map(u64::to_string).collect::<Vec<_>>().join(" ")
+    let touched = if out.iter().any(|&x| x != MARK) { ", output touched" } else { "" };
+    format!("refused {refusal}{touched}")
 }

@@ -1,0 +1,46 @@
+//! `bench`: the same files through the C entry and through the published source, in one run.
+//!
+//! The source's time has the accounts that the oracle makes for each call and its text in it, as the C entry's has its own reading and
+//! writing; each screen is run once. The ratio is the source's time over the C entry's.
+mod corpus;
+mod timing;
+
+use corpus::{kinds, records, screened, Kind, NOW};
+use oracle::random::Random;
+use oracle::record::Call;
+use oracle::MAX_ORDERS;
+use timing::{nanoseconds, SIDES};
+
+fn main() {
+    let [ours, source] = SIDES;
+    println!("                                {ours:>26}   {source:>26}");
+    println!(
+        "kind                    records {:>13} {:>12}   {:>13} {:>12}   ratio",
+        "files/s", "ns/record", "files/s", "ns/record"
+    );
+    kinds().iter().for_each(row);
+    println!();
+    println!("a clear of so many orders, ns  {ours:>14} {source:>14}   ratio");
+    (2..=MAX_ORDERS).step_by(2).for_each(clear);
+}
+
+fn row(kind: &Kind) {
+    let all: u64 = kind.files.iter().map(|f| records(f)).sum();
+    let files = kind.files.len() as f64;
+    let [[ours, source]] = nanoseconds([&kind.files]);
+    let side = |ns: f64| format!("{:>13.0} {:>12.1}", files * 1e9 / ns, ns / all as f64);
+    println!("{:22} {all:>8} {}   {}  {:>6.2}", kind.name, side(ours), side(source), source / ours);
+}
+
+/// The time of a file that ends with a clear, less that of the same file without.
+fn clear(orders: usize) {
+    let books: Vec<Vec<u8>> = (0..20).map(|n| screened(&mut Random::item(3, n), orders)).collect();
+    let cleared = books.iter().map(|book| {
+        let mut file = book.clone();
+        Call::Clear { now: NOW }.write(&mut file);
+        file
+    });
+    let [with, without] = nanoseconds([&cleared.collect::<Vec<_>>(), &books]);
+    let [ours, source] = [0, 1].map(|side| (with[side] - without[side]) / books.len() as f64);
+    println!("{orders:>30} {ours:>14.0} {source:>14.0}  {:>6.2}", source / ours);
+}

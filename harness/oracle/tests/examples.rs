@@ -1,0 +1,82 @@
+//! The examples of the repository and document 01's own, on the published source.
+use credit_math::{allocate_pro_rata, find_uniform_clear_price, MathError, Order};
+use oracle::record::{self, Call, Header};
+use std::{fs, path::Path};
+
+#[test]
+fn example_files() {
+    let folder = Path::new(env!("CARGO_MANIFEST_DIR")).join("../../examples");
+    let mut seen = 0;
+    for entry in fs::read_dir(folder).unwrap() {
+        let path = entry.unwrap().path();
+        if path.extension().is_some_and(|e| e == "session") {
+            let listing = fs::read_to_string(path.with_extension("listing")).unwrap();
+            assert_eq!(oracle::listing(&fs::read(&path).unwrap()), listing, "{}", path.display());
+            seen += 1;
+        }
+    }
+    assert!(seen > 0);
+}
+
+/// Two bids and two asks at limit 1, screened and cleared.
+fn two_and_two(first: u64, second: u64) -> String {
+    let mut file = Vec::new();
+    let times = (100, 0, 200);
+    Header {
+        reveal_end: times.0,
+        rofr_window: times.1,
+        settle_deadline: times.2,
+        max_cash: 1000,
+        min_reveals: 2,
+        forced: false,
+        rofr_authority: [0; 32],
+        mark: true,
+        reserve: 0,
+        reference: 0,
+        policy: 0,
+        band_bps: 0,
+    }
+    .write(&mut file);
+    let sides = [(0, first), (0, second), (1, first), (1, second)];
+    for (i, (side, qty)) in sides.iter().enumerate() {
+        let owner = [i as u8 + 1; 32];
+        record::Order { owner, side: *side, escrowed: 1, revealed: true, limit: 1, qty: *qty }.write(&mut file);
+    }
+    for (i, (side, _)) in sides.iter().enumerate() {
+        let id = Some([i as u8 + 1; 16]);
+        Call::Screen { now: 150, order: i as u8, side: *side, verdict: 0, id }.write(&mut file);
+    }
+    Call::Clear { now: 150 }.write(&mut file);
+    oracle::listing(&file)
+}
+
+#[test]
+fn volumes_at_64_bits() {
+    assert!(two_and_two(1 << 63, 1 << 63).ends_with("9 refused 17\nend 7 0\n"));
+    assert!(two_and_two(1 << 63, (1 << 63) - 1).contains("9 clear 1 18446744073709551615 0 0\n"));
+}
+
+#[test]
+fn small_files() {
+    assert_eq!(oracle::listing(b""), "end none\n");
+    assert_eq!(oracle::listing(b"S"), "0 refused 1\nend none\n");
+    assert_eq!(oracle::listing(b"SX"), "0 refused 2\nend none\n");
+    assert_eq!(oracle::listing(b"OR"), "0 refused 3\nend none\n");
+    assert_eq!(oracle::listing(b"SH"), "0 refused 1\nend none\n");
+    assert_eq!(oracle::listing(&[0; 65_537]), "0 refused 26\nend none\n");
+}
+
+#[test]
+fn marked_for_proof() {
+    let bids = [(1, 5), (2, 3)];
+    assert_eq!(allocate_pro_rata(7, &bids), Ok(vec![(1, 5), (2, 2)]));
+    assert_eq!(allocate_pro_rata(1, &[]), Err(MathError::InvalidInput));
+    assert_eq!(allocate_pro_rata(9, &bids), Err(MathError::OverAllocation));
+    let ones = [(7, 1), (3, 1), (5, 1)];
+    assert_eq!(allocate_pro_rata(2, &ones), Ok(vec![(7, 0), (3, 1), (5, 1)]));
+    let order = |limit_price, is_buy| Order { bidder_id: 0, limit_price, qty: 5, is_buy };
+    let pair = [order(10, true), order(8, false)];
+    let price = |reserve, reference| find_uniform_clear_price(&pair, reserve, reference).unwrap().map(|c| c.clear_price);
+    assert_eq!([price(0, 9), price(0, 10), price(9, 9), price(11, 9)], [Some(8), Some(10), Some(10), None]);
+    assert_eq!([2500, 0, 10_000].map(|bps| auction_engine::reach::band(11, bps)), [10, 11, 11]);
+}
