@@ -5,6 +5,7 @@ use book::Fill;
 use book::Order;
 use events::Event;
 use events::Events;
+use events::Print;
 use libc::STDOUT_FILENO;
 ghost use Prim.Native.Nat.{_<_};
 
@@ -110,14 +111,16 @@ fn put_event(e: Event) {
             qty,
             reason as u64,
         ),
-        Event::ClearingPrint(p) => {
-            put_three(b"print", p.price, p.volume, p.n_investor_ids);
-            flag(p.forced_sale);
-            field(p.policy as u64);
-            flag(p.partial);
-        }
+        Event::ClearingPrint(p) => put_print(p),
         Event::PhaseChanged { from, to } => put_two(b"phase", from as u64, to as u64),
     }
+}
+
+fn put_print(p: Print) {
+    put_three(b"print", p.price, p.volume, p.n_investor_ids);
+    flag(p.forced_sale);
+    field(p.policy as u64);
+    flag(p.partial);
 }
 
 fn put_one(word: &[u8], a: u64) {
