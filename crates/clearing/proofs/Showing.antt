@@ -1,5 +1,5 @@
 -- The loop over a file's records: it moves forward, and has passed at least as many bytes as records. Assumes nothing.
-use mathlib.Core.Path.{_≡_, refl, sym, ap, _∙_, subst}
+use mathlib.Core.Path.{_≡_, refl, ap, _∙_}
 use mathlib.Core.List.{List}
 use Prim.Native.Nat.{ℕ, _+_, _-_, _≤_, _<_}
 use native.Mathlib.Omega.{arith}
@@ -7,7 +7,7 @@ use lib.ListN.{length, drop, length-append}
 use Rattle.listing.specs.Writing.{Puts}
 use Rattle.session_file.specs.declared.runner.Runner.{Runner}
 use Rattle.session_file.specs.declared.runner.Turn.{Turn}
-use Rattle.session_file.specs.Runner.{start, nextRunner, TurnOf}
+use Rattle.session_file.specs.Runner.{start, turnAt}
 use Rattle.session_file.proofs.Forward.{Onward, onward}
 
 pub record Showing (input : List ℕ) (r : Runner) (number : ℕ) : Type 0 where
@@ -21,9 +21,9 @@ start-at = refl
 pub showing-start : (input : List ℕ) (r : Runner) → r ≡ start → Showing input r 0
 showing-start input r e = let z : r .at ≡ 0 = ap (λ (x : Runner). x .at) e ∙ start-at in record { within = omega arith; passed = omega arith }
 
-module _ {input : List ℕ} {r : Runner} {number : ℕ} (t : Turn) (h : r .at < length input) (o : TurnOf input r t) (s : Showing input r number) where
+module _ {input : List ℕ} {r : Runner} {number : ℕ} (t : Turn) (h : r .at < length input) (is : t ≡ turnAt input r) (s : Showing input r number) where
   moved : Onward input r (t .runner)
-  moved = subst (λ (x : Runner). Onward input r x) (sym (o .runner)) (onward input r h)
+  moved = rw is (onward input r h)
 
   pub showing-less : length input - t .runner .at < length input - r .at
   showing-less = omega (arith, moved .on, moved .within)

@@ -13,7 +13,7 @@ use Rattle.laws.proofs.Checks.{check-zero}
 use Rattle.auction_engine.specs.declared.Session.{Session}
 use Rattle.session_file.specs.declared.records.Mark.{Mark}
 use Rattle.session_file.specs.declared.records.Mark.the-variants.{Unknown, SH, OR, SC, CL, AL, RX, RC, ST, SK, FN, EX}
-use Rattle.session_file.specs.Records.{Read, refused, header, order, call, kindOf, widthOf, inPlace, fieldsOf, markAt, recordRefusal, readOf}
+use Rattle.session_file.specs.Records.{Read, refused, header, order, call, kindOf, widthOf, inPlace, paramsOf, givenOf, fieldsOf, markAt, recordRefusal, readOf}
 use Rattle.session_file.specs.Runner.{readRefusal}
 
 -- ---- the refusals of any record, where they all pass
@@ -32,17 +32,17 @@ passed rec stage z =
     let d = check-zero _ 0 _ (c .1) in
     record { marked = leb-true 2 (length rec) (a .0); known = ltb-true 0 (kindOf (markAt rec)) (b .0); placed = c .0; whole = leb-true (widthOf (markAt rec)) (length rec) (d .0) }
 
--- ---- where what was read may stand; a refusal has a number
-abbrev pub Stands : (stage : ℕ) → Read → Type 0
-Stands stage (refused number) = number ≢ 0
-Stands stage (header p g) = stage ≡ 0
-Stands stage (order row) = stage ≡ 1
-Stands stage (call c) = 0 < stage
+-- ---- where what was read may stand, and a header's fields; a refusal has a number
+abbrev pub Stands : List ℕ → (stage : ℕ) → Read → Type 0
+Stands rec stage (refused number) = number ≢ 0
+Stands rec stage (header p g) = (stage ≡ 0) × (p ≡ paramsOf rec) × (g ≡ givenOf rec)
+Stands rec stage (order row) = stage ≡ 1
+Stands rec stage (call c) = 0 < stage
 
-fields-stand : (stage : ℕ) (rec : List ℕ) (m : Mark) → inPlace stage m ≡ true → Stands stage (fieldsOf m rec)
+fields-stand : (stage : ℕ) (rec : List ℕ) (m : Mark) → inPlace stage m ≡ true → Stands rec stage (fieldsOf m rec)
 unfolding fieldsOf
 fields-stand stage rec Unknown h = λ z. omega arith
-fields-stand stage rec SH h = eqb-true stage 0 (rw (or-false, or-false) at h)
+fields-stand stage rec SH h = (eqb-true stage 0 (rw (or-false, or-false) at h), refl, refl)
 fields-stand stage rec OR h = eqb-true stage 1 (rw or-false at h)
 fields-stand stage rec SC h = ltb-true 0 stage h
 fields-stand stage rec CL h = ltb-true 0 stage h
@@ -54,11 +54,11 @@ fields-stand stage rec SK h = ltb-true 0 stage h
 fields-stand stage rec FN h = ltb-true 0 stage h
 fields-stand stage rec EX h = ltb-true 0 stage h
 
-pub read-stands : (rec : List ℕ) (stage : ℕ) → Stands stage (readOf rec stage)
+pub read-stands : (rec : List ℕ) (stage : ℕ) → Stands rec stage (readOf rec stage)
 unfolding readOf
 read-stands rec stage = go (eqb (recordRefusal rec stage) 0) refl
   where
-    go : (t : Bool) → eqb (recordRefusal rec stage) 0 ≡ t → Stands stage (cond t (fieldsOf (markAt rec) rec) (refused (recordRefusal rec stage)))
+    go : (t : Bool) → eqb (recordRefusal rec stage) 0 ≡ t → Stands rec stage (cond t (fieldsOf (markAt rec) rec) (refused (recordRefusal rec stage)))
     go true e = fields-stand stage rec (markAt rec) (passed rec stage (eqb-true _ 0 e) .placed)
     go false e = eqb-false (recordRefusal rec stage) 0 e
 

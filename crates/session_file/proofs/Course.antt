@@ -3,11 +3,11 @@
 use mathlib.Core.Path.{_≡_, refl, sym, ap, _∙_}
 use mathlib.Core.Bool.{Bool, true, false, cond}
 use mathlib.Core.List.{List, [], _∷_, _++_, append-nil}
-use Prim.Native.Nat.{ℕ, zero, suc, _+_}
+use Prim.Native.Nat.{ℕ, zero, suc, _+_, _<_}
 use native.Mathlib.Omega.{arith}
 use lib.Dec.{eqb, ltb}
 use lib.ListN.{length, drop}
-use borrow.Author.Tests.{eqb-true}
+use borrow.Author.Tests.{eqb-true, ltb-true}
 use Rattle.book.specs.declared.Row.{Row}
 use Rattle.events.specs.Events.{packed}
 use Rattle.auction_engine.specs.declared.Session.{Session}
@@ -18,10 +18,9 @@ use Rattle.auction_engine.specs.Opening.{Opening, opened, withOrder, withRows, 
 use Rattle.course.specs.Course.{Run, begin, note, advance, run}
 use Rattle.session_file.specs.declared.runner.Runner.{Runner}
 use Rattle.session_file.specs.Records.{Read, refused, header, order, call, widthOf, markAt}
-use Rattle.session_file.specs.Runner.{start, readRefusal, readAt, refusalAt, nextRunner}
-use Rattle.session_file.specs.Claims.{runnerAt, callIn, callsIn, Standing, unopened, ordering, calling, FileIsCourse}
+use Rattle.session_file.specs.Runner.{start, readRefusal, readAt, wentOn, stopped, took, turnAt}
+use Rattle.session_file.specs.Claims.{runnerAt, rowIn, rowsIn, callIn, callsIn, Opens, Standing, unopened, ordering, calling, FileIsCourse}
 use Rattle.session_file.proofs.Accepted.{Stands, read-stands}
-use Rattle.session_file.proofs.Forward.{after}
 
 -- ---- one call more: a run's session is what the call answers
 note-session : (r : Run) (s : Session) (c : Call) → note r s c .session ≡ s
@@ -68,45 +67,83 @@ more o row z =
       rows-accepted = accepted-more (fresh (o .params) (o .given)) (o .rows) row (o .rows-accepted) z;
     }
 
--- ---- one record more: it goes on to place, or stops at the end
-module _ (r : Runner) (end place : ℕ) (calls : List Call) where
-  stays : Standing r calls → Standing (record { stage = r .stage; session = r .session; at = end }) calls
-  stays (unopened a b) = unopened a b
-  stays (ordering o a b d) = ordering o a b d
-  stays (calling o a b) = calling o a b
+more-opens : {s : List ℕ} {rows : List Row} (o : Opening) (row : Row) (z : orderRefusal (opened o) row ≡ 0) → Opens s rows o → Opens s (rows ++ (row ∷ [])) (more o row z)
+more-opens o row z h = record { params = h .params; given = h .given; rows-are = ap (λ (l : List Row). l ++ (row ∷ [])) (h .rows-are) }
 
-  calls-on : (o : Opening) (c : Call) → r .session ≡ run (begin (opened o)) calls .session
-      → Standing (record { stage = 2; session = answer (r .session) c .session; at = place }) (calls ++ (c ∷ []))
-  calls-on o c is = calling o refl (ap (λ (s : Session). answer s c .session) is ∙ sym (run-more (begin (opened o)) calls c))
+-- ---- what was read makes the runner go on to place, or stops it at the end
+abbrev next : Runner → (end place : ℕ) → Read → (accepted : Bool) → Runner
+next r end place x accepted = cond accepted (wentOn r place x) (stopped r end (readRefusal (r .session) x)) .runner
 
-  steps : Standing r calls → (x : Read) → Stands (r .stage) x → (t : Bool) → eqb (readRefusal (r .session) x) 0 ≡ t → Standing (after r end place x t) (calls ++ callIn x)
-  unfolding readRefusal callIn
-  steps v (refused n) h true e = absurd (h (eqb-true n 0 e))
-  steps v (refused n) h false e = rw append-nil (stays v)
-  steps (unopened a b) (header p g) h true e =
-      rw append-nil (ordering (record { params = p; given = g; rows = []; header-accepted = eqb-true (headerRefusal p g) 0 e; rows-accepted = tt }) refl refl b)
-  steps (ordering o a b d) (header p g) h true e = absurd (omega arith)
-  steps (calling o a b) (header p g) h true e = absurd (omega arith)
-  steps v (header p g) h false e = rw append-nil (stays v)
-  steps (unopened a b) (order row) h true e = absurd (omega arith)
-  steps (ordering o a b d) (order row) h true e =
+module _ (s : List ℕ) (r : Runner) (end place : ℕ) (rows : List Row) (calls : List Call) where
+  stays : Standing s r rows calls → Standing s (stopped r end 0 .runner) (rows ++ []) (calls ++ [])
+  stays (unopened a b d) = rw (append-nil, append-nil) (unopened a b d)
+  stays (ordering o h a b d) = rw (append-nil, append-nil) (ordering o h a b d)
+  stays (calling o h a b) = rw (append-nil, append-nil) (calling o h a b)
+
+  calls-on : (o : Opening) (c : Call) → Opens s rows o → r .session ≡ run (begin (opened o)) calls .session → Standing s (wentOn r place (call c) .runner) (rows ++ []) (calls ++ (c ∷ []))
+  calls-on o c h is = rw append-nil (calling o h refl (ap (λ (x : Session). answer x c .session) is ∙ sym (run-more (begin (opened o)) calls c)))
+
+  -- the header is the file's first record
+  steps : Standing s r rows calls → (r .stage ≡ 0 → r .at ≡ 0) → (x : Read) → Stands (drop (r .at) s) (r .stage) x → (t : Bool) → eqb (readRefusal (r .session) x) 0 ≡ t
+      → Standing s (next r end place x t) (rows ++ rowIn (r .session) x) (calls ++ callIn x)
+  unfolding readRefusal rowIn callIn
+  steps v first (refused n) h true e = absurd (h (eqb-true n 0 e))
+  steps v first (refused n) h false e = stays v
+  steps (unopened a b d) first (header p g) h true e =
+      let o : Opening = record { params = p; given = g; rows = []; header-accepted = eqb-true (headerRefusal p g) 0 e; rows-accepted = tt } in
+      rw (append-nil, append-nil) (ordering o (record { params = rw (first a) at (h .1); given = rw (first a) at (h .2); rows-are = sym b }) refl refl d)
+  steps (ordering o i a b d) first (header p g) h true e = absurd (omega (arith, h .0))
+  steps (calling o i a b) first (header p g) h true e = absurd (omega (arith, h .0))
+  steps v first (header p g) h false e = stays v
+  steps (unopened a b d) first (order row) h true e = absurd (omega arith)
+  steps (ordering o i a b d) first (order row) h true e =
       let z : orderRefusal (opened o) row ≡ 0 = rw b at (eqb-true (orderRefusal (r .session) row) 0 e) in
-      rw append-nil (ordering (more o row z) refl (ap (λ (x : Session). withOrder x row) b ∙ sym (rows-more (fresh (o .params) (o .given)) (o .rows) row)) d)
-  steps (calling o a b) (order row) h true e = absurd (omega arith)
-  steps v (order row) h false e = rw append-nil (stays v)
-  steps (unopened a b) (call c) h true e = absurd (omega arith)
-  steps (ordering o a b d) (call c) h true e = rw e (calls-on o c (b ∙ ap (λ (l : List Call). run (begin (opened o)) l .session) (sym d)))
-  steps (calling o a b) (call c) h true e = rw e (calls-on o c b)
-  steps v (call c) h false e = rw (e, append-nil) (stays v)
+      rw (e, append-nil)
+      (ordering (more o row z) (more-opens o row z i) refl (ap (λ (x : Session). withOrder x row) b ∙ sym (rows-more (fresh (o .params) (o .given)) (o .rows) row)) d)
+  steps (calling o i a b) first (order row) h true e = absurd (omega arith)
+  steps v first (order row) h false e = rw e (stays v)
+  steps (unopened a b d) first (call c) h true e = absurd (omega arith)
+  steps (ordering o i a b d) first (call c) h true e = rw e (calls-on o c i (b ∙ ap (λ (l : List Call). run (begin (opened o)) l .session) (sym d)))
+  steps (calling o i a b) first (call c) h true e = rw e (calls-on o c i b)
+  steps v first (call c) h false e = rw e (stays v)
+
+-- ---- while no header is accepted, a runner with bytes left is at the first
+abbrev First : List ℕ → Runner → Type 0
+First s r = r .stage ≡ 0 → r .at < length s → r .at ≡ 0
+
+first-next : (s : List ℕ) (r : Runner) (place : ℕ) (x : Read) → Stands (drop (r .at) s) (r .stage) x → (t : Bool) → eqb (readRefusal (r .session) x) 0 ≡ t
+    → First s (next r (length s) place x t)
+unfolding readRefusal
+first-next s r place (refused n) h true e = absurd (h (eqb-true n 0 e))
+first-next s r place (header p g) h true e = λ z l. absurd (omega arith)
+first-next s r place (order row) h true e = λ z l. absurd (omega arith)
+first-next s r place (call c) h true e = λ z l. absurd (omega arith)
+first-next s r place x h false e = λ z l. absurd (omega arith)
 
 -- ---- the claim
-file-next : (s : List ℕ) (r : Runner) (calls : List Call) (t : Bool) → Standing r calls → Standing (cond t (nextRunner s r) r) (calls ++ cond t (callIn (readAt s r)) [])
-unfolding nextRunner
-file-next s r calls true v =
-    steps r (length s) (r .at + widthOf (markAt (drop (r .at) s))) calls v (readAt s r) (read-stands (drop (r .at) s) (r .stage)) (eqb (refusalAt s r) 0) refl
-file-next s r calls false v = rw append-nil v
+module _ (s : List ℕ) (r : Runner) where
+  abbrev place : ℕ
+  place = r .at + widthOf (markAt (drop (r .at) s))
+
+  file-first : (t : Bool) → First s r → First s (cond t (turnAt s r .runner) r)
+  unfolding turnAt took
+  file-first true f = first-next s r place (readAt s r) (read-stands (drop (r .at) s) (r .stage)) (eqb (readRefusal (r .session) (readAt s r)) 0) refl
+  file-first false f = f
+
+  file-next : (rows : List Row) (calls : List Call) → First s r → Standing s r rows calls → (t : Bool) → ltb (r .at) (length s) ≡ t
+      → Standing s (cond t (turnAt s r .runner) r) (rows ++ cond t (rowIn (r .session) (readAt s r)) []) (calls ++ cond t (callIn (readAt s r)) [])
+  unfolding turnAt took
+  file-next rows calls f v true e =
+      steps s r (length s) place rows calls v (λ z. f z (ltb-true _ _ e)) (readAt s r) (read-stands (drop (r .at) s) (r .stage)) (eqb (readRefusal (r .session) (readAt s r)) 0) refl
+  file-next rows calls f v false e = rw (append-nil, append-nil) v
+
+first-at : (s : List ℕ) (n : ℕ) → First s (runnerAt s n)
+unfolding runnerAt start
+first-at s zero = λ z l. refl
+first-at s (suc n) = file-first s (runnerAt s n) (ltb (runnerAt s n .at) (length s)) (first-at s n)
 
 pub file-is-course : FileIsCourse
-unfolding runnerAt callsIn start
-file-is-course s zero = unopened refl refl
-file-is-course s (suc n) = file-next s (runnerAt s n) (callsIn s n) (ltb (runnerAt s n .at) (length s)) (file-is-course s n)
+unfolding runnerAt rowsIn callsIn start
+file-is-course s zero = unopened refl refl refl
+file-is-course s (suc n) =
+    file-next s (runnerAt s n) (rowsIn s n) (callsIn s n) (first-at s n) (file-is-course s n) (ltb (runnerAt s n .at) (length s)) refl

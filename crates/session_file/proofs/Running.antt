@@ -13,7 +13,7 @@ use Rattle.listing.specs.Writing.{written, Writes, Puts}
 use Rattle.listing.proofs.Spliced.{puts-none, puts-puts}
 use Rattle.session_file.specs.declared.runner.Runner.{Runner}
 use Rattle.session_file.specs.declared.runner.Turn.{Turn}
-use Rattle.session_file.specs.Runner.{start, nextRunner, saidAt, TurnOf}
+use Rattle.session_file.specs.Runner.{start, turnAt}
 use Rattle.session_file.specs.File.{lastLine, listingFrom, maxInput, listing}
 use Rattle.session_file.specs.Entry.{Ran}
 use Rattle.session_file.proofs.Forward.{onward}
@@ -21,10 +21,10 @@ use Rattle.session_file.proofs.Lent.{fits, longer, lent, to-end, puts-l
 
 -- ---- what is left to list, while bytes are left and where none are
 abbrev nextLines : (number : ℕ) → List ℕ → Runner → List ℕ
-nextLines number s r = recordLines number (saidAt s r)
+nextLines number s r = recordLines number (said (turnAt s r .said))
 
 from-more : (n number : ℕ) (s : List ℕ) (r : Runner) → r .at < length s → length s ≤ r .at + n
-    → (m : ℕ) × (n ≡ suc m) × (listingFrom n number s r ≡ nextLines number s r ++ listingFrom m (number + 1) s (nextRunner s r))
+    → (m : ℕ) × (n ≡ suc m) × (listingFrom n number s r ≡ nextLines number s r ++ listingFrom m (number + 1) s (turnAt s r .runner))
 unfolding listingFrom
 from-more zero number s r h e = absurd (omega arith)
 from-more (suc m) number s r h e = (m, refl, rw (lt-ltb (r .at) (length s) h))
@@ -94,13 +94,13 @@ module _ {s e : List ℕ} {r : Runner} {number at : ℕ} {e′ : List ℕ} (v : 
   text-long line d z = omega (arith, v .room, v .same, v .puts .place, rw (to-end at k e′ kept, length-drop) at (longer d z .0))
 
   -- a record's lines are written
-  pub running-more : {w : Written} (t : Turn) → r .at < length s → TurnOf s r t → Writes (recordLines number (said (t .said))) w (take k (drop at e′)) y → w .refusal ≡ 0
+  pub running-more : {w : Written} (t : Turn) → r .at < length s → t ≡ turnAt s r → Writes (recordLines number (said (t .said))) w (take k (drop at e′)) y → w .refusal ≡ 0
       → Running s e (t .runner) (number + 1) (at + w .len) (lent at k e′ y)
   running-more {w} t h turn d z =
       let f = from-more (v .fuel) number s r h (v .enough) in
       let o = onward s r h in
-      let p = text-more (nextLines number s r) (rw (turn .record-said) at d) z in
-      rw (turn .runner) (record {
+      let p = text-more (nextLines number s r) (rw turn at d) z in
+      rw turn (record {
         text = v .text ++ nextLines number s r;
         fuel = f .0;
         enough = omega (arith, v .enough, f .1, o .on);
@@ -113,11 +113,11 @@ module _ {s e : List ℕ} {r : Runner} {number at : ℕ} {e′ : List ℕ} (v : 
       })
 
   -- they do not fit: then the listing does not
-  pub running-long : {w : Written} (t : Turn) → r .at < length s → TurnOf s r t → Writes (recordLines number (said (t .said))) w (take k (drop at e′)) y → w .refusal ≢ 0
+  pub running-long : {w : Written} (t : Turn) → r .at < length s → t ≡ turnAt s r → Writes (recordLines number (said (t .said))) w (take k (drop at e′)) y → w .refusal ≢ 0
       → Ran s w e (lent at k e′ y)
   running-long {w} t h turn d z =
       let f = from-more (v .fuel) number s r h (v .enough) in
-      let g = rw (turn .record-said) at d in
+      let g = rw turn at d in
       let n = ap length (ap (λ (x : List ℕ). v .text ++ x) (sym (f .2)) ∙ v .left) in
       ran-long s e (lent at k e′ y) w (longer g z .1) (omega (arith, text-long (nextLines number s r) g z, simp length-append at n)) running-length
 

@@ -1,34 +1,46 @@
--- What a call record says, by the reader that made it.
+-- What a call record says: the call that the bytes say.
 -- Assumes nothing.
-use mathlib.Core.Path.{_≡_, refl, sym, ap, _∙_}
+use mathlib.Core.Path.{_≡_, refl}
 use mathlib.Core.List.{List}
 use Prim.Native.Nat.{ℕ, _≤_}
 use native.Mathlib.Omega.{arith}
-use lib.IntN.{ℤ, pos}
-use Rattle.auction_engine.specs.declared.CallRecord.{CallRecord}
-use Rattle.auction_engine.specs.Call.{Call, clear, finish, expire}
+use Rattle.auction_engine.specs.Call.{Call, screen, clear, allocate, exercise, close, settle, skip, finish, expire}
 use Rattle.auction_engine.specs.Engine.{callOf}
 use Rattle.session_file.specs.declared.records.Mark.{Mark}
-use Rattle.session_file.specs.Records.{kindOf, fieldsOf, call}
-use Rattle.session_file.specs.Calls.{blankCall, Says, CallRead}
+use Rattle.session_file.specs.declared.records.Mark.the-variants.{Unknown, SH, OR, SC, CL, AL, RX, RC, ST, SK, FN, EX}
+use Rattle.session_file.specs.Records.{Read, refused, header, order, call, kindOf, fieldsOf}
+use Rattle.session_file.specs.Calls.{recordOf, callRead}
 
--- the calls with a time and nothing more
-module _ {r : CallRecord} {now : ℤ} where
-  pub says-clear : r ≡ blankCall 1 now → Says r 1 (clear now)
-  unfolding callOf
-  says-clear is = rw is (record { kind-is = refl; call-is = refl })
+-- every record that is read has a call's kind
+kind-known : (c : Call) → recordOf c .kind ≤ 8
+kind-known (screen now i side verdict hasId id) = omega arith
+kind-known (clear now) = omega arith
+kind-known (allocate now n) = omega arith
+kind-known (exercise now issuer i q) = omega arith
+kind-known (close now caller) = omega arith
+kind-known (settle i) = omega arith
+kind-known (skip now i reason) = omega arith
+kind-known (finish now) = omega arith
+kind-known (expire now) = omega arith
 
-  pub says-finish : r ≡ blankCall 7 now → Says r 7 (finish now)
-  unfolding callOf
-  says-finish is = rw is (record { kind-is = refl; call-is = refl })
+pub read-known : (x : Read) → callRead x .kind ≤ 8
+read-known (refused number) = omega arith
+read-known (header p g) = omega arith
+read-known (order row) = omega arith
+read-known (call c) = kind-known c
 
-  pub says-expire : r ≡ blankCall 8 now → Says r 8 (expire now)
-  unfolding callOf
-  says-expire is = rw is (record { kind-is = refl; call-is = refl })
-
--- of a call's mark, and of another
-pub read-call : {m : Mark} {rec : List ℕ} {r : CallRecord} {kind : ℕ} {c : Call} → kindOf m ≡ 3 → fieldsOf m rec ≡ call c → kind ≤ 8 → Says r kind c → CallRead m rec r
-read-call h is few s = record { known = omega (arith, s .kind-is); fields = λ _. is ∙ ap call (sym (s .call-is)); blank = λ no-call. absurd (no-call h) }
-
-pub read-other : {m : Mark} {rec : List ℕ} {r : CallRecord} → (kindOf m ≡ 3 → ⊥) → r ≡ blankCall 0 (pos 0) → CallRead m rec r
-read-other h is = record { known = rw is (omega arith); fields = λ e. absurd (h e); blank = λ _. is }
+-- of a call's mark, it says that call
+pub call-fields : (m : Mark) (rec : List ℕ) → kindOf m ≡ 3 → call (callOf (callRead (fieldsOf m rec))) ≡ fieldsOf m rec
+unfolding fieldsOf callOf
+call-fields Unknown rec h = absurd (omega arith)
+call-fields SH rec h = absurd (omega arith)
+call-fields OR rec h = absurd (omega arith)
+call-fields SC rec h = refl
+call-fields CL rec h = refl
+call-fields AL rec h = refl
+call-fields RX rec h = refl
+call-fields RC rec h = refl
+call-fields ST rec h = refl
+call-fields SK rec h = refl
+call-fields FN rec h = refl
+call-fields EX rec h = refl

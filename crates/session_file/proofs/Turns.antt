@@ -10,9 +10,6 @@ use borrow.Author.Tests.{eq-eqb, ne-eqb}
 use Rattle.book.specs.declared.Params.{Params}
 use Rattle.book.specs.declared.Given.{Given}
 use Rattle.book.specs.declared.Row.{Row}
-use Rattle.listing.specs.Lines.{said}
-use Rattle.listing.specs.Lines as lines
-use Rattle.listing.specs.declared.Record.{Record}
 use Rattle.auction_engine.specs.declared.CallRecord.{CallRecord}
 use Rattle.auction_engine.specs.Engine.{callOf}
 use Rattle.session_file.specs.declared.records.Mark.{Mark}
@@ -20,29 +17,21 @@ use Rattle.session_file.specs.declared.records.Mark.the-variants.{Unknow
 use Rattle.session_file.specs.declared.runner.Runner.{Runner}
 use Rattle.session_file.specs.declared.runner.Turn.{Turn}
 use Rattle.session_file.specs.Records.{Read, refused, header, order, call, kindOf, widthOf, paramsOf, givenOf, rowOf, fieldsOf, markOf, markAt, recordRefusal, readOf}
-use Rattle.session_file.specs.Runner.{readRefusal, readEffect, readStage, readSaid, nextRunner, saidAt, TurnOf, Took}
+use Rattle.session_file.specs.Runner.{readRefusal, wentOn, stopped, took, turnAt}
 use Rattle.session_file.specs.Bytes.{word}
-use Rattle.session_file.specs.Calls.{CallRead}
+use Rattle.session_file.specs.Calls.{callRead}
 use Rattle.session_file.proofs.Accepted.{Passed, passed}
-
--- a turn that ends the file with a number
-abbrev pub Stopped : Runner → (end number : ℕ) → Turn → Type 0
-Stopped r end number t = (t .runner ≡ record { stage = r .stage; session = r .session; at = end }) × (said (t .said) ≡ lines.refused number)
+use Rattle.session_file.proofs.Sayings.{call-fields}
 
 -- ---- what was read stops the file with its number, or is gone on with
-module _ {r : Runner} {end next : ℕ} (x : Read) (n : ℕ) {t : Turn} (is : n ≡ readRefusal (r .session) x) where
-  pub took-stop : n ≢ 0 → Stopped r end n t → Took r end next x t
-  took-stop z stopped = record {
-    runner = rw (← is, ne-eqb n 0 z) (stopped .0);
-    record-said = rw (← is, ne-eqb n 0 z) (stopped .1);
-  }
+module _ (r : Runner) (end next : ℕ) (x : Read) (n : ℕ) {t : Turn} (is : n ≡ readRefusal (r .session) x) where
+  pub took-stop : n ≢ 0 → t ≡ stopped r end n → t ≡ took r end next x
+  unfolding took
+  took-stop z stops = rw (← is, ne-eqb n 0 z) stops
 
-  pub took-on : n ≡ 0 → (what : Record) → t ≡ record { runner = record { stage = readStage x; session = readEffect (r .session) x; at = next }; said = what }
-      → said what ≡ readSaid (r .session) x → Took r end next x t
-  took-on z what goes says = record {
-    runner = rw (← is, eq-eqb n 0 z, goes);
-    record-said = rw (← is, eq-eqb n 0 z, goes) says;
-  }
+  pub took-on : n ≡ 0 → t ≡ wentOn r next x → t ≡ took r end next x
+  unfolding took
+  took-on z goes = rw (← is, eq-eqb n 0 z) goes
 
 -- ---- the fields, by the kind of the record
 pub header-fields : (m : Mark) (rec : List ℕ) → kindOf m ≡ 1 → header (paramsOf rec) (givenOf rec) ≡ fieldsOf m rec
@@ -95,12 +84,9 @@ module _ (s : List ℕ) (r : Runner) {rec : List ℕ} (rest : rec ≡ drop (r .a
   refusal-is : n ≡ recordRefusal (drop (r .at) s) (r .stage)
   refusal-is = rw rest at is
 
-  pub turn-stop : {t : Turn} → n ≢ 0 → Stopped r (length s) n t → TurnOf s r t
-  unfolding nextRunner saidAt readOf readRefusal
-  turn-stop z stopped = record {
-    runner = rw (← refusal-is, ne-eqb n 0 z, ne-eqb n 0 z) (stopped .0);
-    record-said = rw (← refusal-is, ne-eqb n 0 z, ne-eqb n 0 z) (stopped .1);
-  }
+  pub turn-stop : {t : Turn} → n ≢ 0 → t ≡ stopped r (length s) n → t ≡ turnAt s r
+  unfolding turnAt took readOf readRefusal
+  turn-stop z stops = rw (← refusal-is, ne-eqb n 0 z, ne-eqb n 0 z) stops
 
   -- m is its mark
   module _ (z : n ≡ 0) {u : ℕ} (number : u ≡ word 2 rec 0) {m : Mark} (mark : m ≡ markOf u) {width : ℕ} (wide : width ≡ widthOf m) where
@@ -116,24 +102,21 @@ module _ (s : List ℕ) (r : Runner) {rec : List ℕ} (rest : rec ≡ drop (r .a
         let w : widthOf m ≤ length (drop (r .at) s) = rw mark-is at (accepted .whole) in
         omega (arith, accepted .marked, w, wide, length-drop (r .at) s)
 
-    turn-took : {t : Turn} (x : Read) → x ≡ fieldsOf m rec → Took r (length s) (r .at + width) x t → TurnOf s r t
-    unfolding nextRunner saidAt readOf
-    turn-took x fields took =
+    turn-took : {t : Turn} (x : Read) → x ≡ fieldsOf m rec → t ≡ took r (length s) (r .at + width) x → t ≡ turnAt s r
+    unfolding turnAt readOf
+    turn-took x fields is-turn =
         let f : fieldsOf m (drop (r .at) s) ≡ x = sym (rw rest at fields) in
-        record {
-          runner = rw (← refusal-is, eq-eqb n 0 z, mark-is, f, ← wide) (took .runner);
-          record-said = rw (← refusal-is, eq-eqb n 0 z, mark-is, f) (took .record-said);
-        }
+        rw (← refusal-is, eq-eqb n 0 z, mark-is, f, ← wide) is-turn
 
     -- by its kind
     module _ {k : ℕ} (kind : k ≡ kindOf m) {t : Turn} where
-      pub turn-header : k ≡ 1 → {p : Params} → p ≡ paramsOf rec → {g : Given} → g ≡ givenOf rec → Took r (length s) (r .at + width) (header p g) t → TurnOf s r t
-      turn-header e {p} ps {g} gs took = turn-took (header p g) (rw (ps, gs) (header-fields m rec (sym kind ∙ e))) took
+      pub turn-header : k ≡ 1 → {p : Params} → p ≡ paramsOf rec → {g : Given} → g ≡ givenOf rec → t ≡ took r (length s) (r .at + width) (header p g) → t ≡ turnAt s r
+      turn-header e {p} ps {g} gs is-turn = turn-took (header p g) (rw (ps, gs) (header-fields m rec (sym kind ∙ e))) is-turn
 
-      pub turn-order : k ≡ 2 → {row : Row} → row ≡ rowOf rec → Took r (length s) (r .at + width) (order row) t → TurnOf s r t
-      turn-order e {row} is-row took = turn-took (order row) (rw is-row (order-fields m rec (sym kind ∙ e))) took
+      pub turn-order : k ≡ 2 → {row : Row} → row ≡ rowOf rec → t ≡ took r (length s) (r .at + width) (order row) → t ≡ turnAt s r
+      turn-order e {row} is-row is-turn = turn-took (order row) (rw is-row (order-fields m rec (sym kind ∙ e))) is-turn
 
-      pub turn-call : k ≢ 1 → k ≢ 2 → {c : CallRecord} → CallRead m rec c → Took r (length s) (r .at + width) (call (callOf c)) t → TurnOf s r t
-      turn-call no-header no-order {c} reads took =
+      pub turn-call : k ≢ 1 → k ≢ 2 → {c : CallRecord} → c ≡ callRead (fieldsOf m rec) → t ≡ took r (length s) (r .at + width) (call (callOf c)) → t ≡ turnAt s r
+      turn-call no-header no-order {c} is-call is-turn =
           let e = call-kind m (rw mark-is at (accepted .known)) (λ h. no-header (kind ∙ h)) (λ h. no-order (kind ∙ h)) in
-          turn-took (call (callOf c)) (sym (reads .fields e)) took
+          turn-took (call (callOf c)) (rw is-call (call-fields m rec e)) is-turn

@@ -4,10 +4,10 @@ use mathlib.Core.List.{List, _++_}
 use Prim.Native.Nat.{ℕ, zero, suc, _+_}
 use lib.Dec.{ltb, leb, eqb}
 use lib.ListN.{length}
-use Rattle.listing.specs.Lines.{recordLines, endLine}
+use Rattle.listing.specs.Lines.{recordLines, endLine, said}
 use Rattle.listing.specs.Lines as lines
 use Rattle.session_file.specs.declared.runner.Runner.{Runner}
-use Rattle.session_file.specs.Runner.{start, nextRunner, saidAt}
+use Rattle.session_file.specs.Runner.{start, turnAt}
 
 -- the last line, from where the file was left
 abbrev pub lastLine : Runner → List ℕ
@@ -18,7 +18,7 @@ lastLine r = endLine (not (eqb (r .stage) 0)) (r .session .phase) (r .session .�
 unfoldable pub listingFrom : (n number : ℕ) → List ℕ → Runner → List ℕ
 listingFrom zero number s r = lastLine r
 listingFrom (suc n) number s r =
-    cond (ltb (r .at) (length s)) (recordLines number (saidAt s r) ++ listingFrom n (number + 1) s (nextRunner s r)) (lastLine r)
+    cond (ltb (r .at) (length s)) (recordLines number (said (turnAt s r .said)) ++ listingFrom n (number + 1) s (turnAt s r .runner)) (lastLine r)
 
 -- 'Whole input | 26 above 65,536 bytes'
 abbrev pub maxInput : ℕ

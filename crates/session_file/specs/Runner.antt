@@ -1,14 +1,13 @@
 -- A file's records in turn.
-use mathlib.Core.Path.{_≡_}
 use mathlib.Core.Bool.{Bool, true, false, cond}
-use mathlib.Core.List.{List}
+use mathlib.Core.List.{List, []}
 use Prim.Native.Nat.{ℕ, _+_}
 use lib.Dec.{eqb}
 use lib.IntN.{pos}
 use lib.ListN.{length, drop}
 use Rattle.book.specs.Book.{noWallet}
-use Rattle.listing.specs.Lines.{Said, opened, ordered, happened, eventsIn, said}
-use Rattle.listing.specs.Lines as lines
+use Rattle.events.specs.Events.{packed}
+use Rattle.listing.specs.declared.Record.{Record}
 use Rattle.auction_engine.specs.declared.Session.{Session}
 use Rattle.auction_engine.specs.declared.Answer.{Answer}
 use Rattle.auction_engine.specs.Session.{fresh}
@@ -33,14 +32,18 @@ readEffect s (header p g) = fresh p g
 readEffect s (order row) = withOrder s row
 readEffect s (call c) = answer s c .session
 
--- what a call's answer is said as: 'a refused call lets the file go on'
-abbrev pub saidOf : Answer → Said
-saidOf a = cond (eqb (a .refusal) 0) (happened (eventsIn (a .events))) (lines.refused (a .refusal))
+-- what is said of a record, as the line writer takes it: a kind with its figure, and no event
+abbrev pub saying : (kind figure : ℕ) → Record
+saying kind figure = record { kind = kind; figure = figure; events = packed [] }
 
-abbrev pub readSaid : Session → Read → Said
-readSaid s (refused number) = lines.refused number
-readSaid s (header p g) = opened
-readSaid s (order row) = ordered (s .«order_count»)
+-- what a call's answer is said as: its events, or its refusal; 'a refused call lets the file go on'
+abbrev pub saidOf : Answer → Record
+saidOf a = cond (eqb (a .refusal) 0) (record { kind = 3; figure = 0; events = a .events }) (saying 2 (a .refusal))
+
+abbrev pub readSaid : Session → Read → Record
+readSaid s (refused number) = saying 2 number
+readSaid s (header p g) = saying 0 0
+readSaid s (order row) = saying 1 (s .«order_count»)
 readSaid s (call c) = saidOf (answer s c)
 
 -- how far the file then is
@@ -66,30 +69,18 @@ start =
 abbrev pub readAt : List ℕ → Runner → Read
 readAt s r = readOf (drop (r .at) s) (r .stage)
 
--- its refusal, if it ends the file
-abbrev pub refusalAt : List ℕ → Runner → ℕ
-refusalAt s r = readRefusal (r .session) (readAt s r)
+-- the turn of a record that lets the file go on, to the next place
+abbrev pub wentOn : Runner → (next : ℕ) → Read → Turn
+wentOn r next x = record { runner = record { stage = readStage x; session = readEffect (r .session) x; at = next }; said = readSaid (r .session) x }
 
--- the runner after a record: 'After a file refusal's line only the `end` line follows', so nothing after it is read
-unfoldable pub nextRunner : List ℕ → Runner → Runner
-nextRunner s r =
-    cond (eqb (refusalAt s r) 0)
-    (record { stage = readStage (readAt s r); session = readEffect (r .session) (readAt s r); at = r .at + widthOf (markAt (drop (r .at) s)) })
-    (record { stage = r .stage; session = r .session; at = length s })
+-- the turn of a record that ends the file: 'After a file refusal's line only the `end` line follows', so nothing after it is read
+abbrev pub stopped : Runner → (end refusal : ℕ) → Turn
+stopped r end refusal = record { runner = record { stage = r .stage; session = r .session; at = end }; said = saying 2 refusal }
 
--- what is said of the record
-unfoldable pub saidAt : List ℕ → Runner → Said
-saidAt s r = cond (eqb (refusalAt s r) 0) (readSaid (r .session) (readAt s r)) (lines.refused (refusalAt s r))
+-- the turn of what was read, with the end of the file and the place of the next record
+unfoldable pub took : Runner → (end next : ℕ) → Read → Turn
+took r end next x = cond (eqb (readRefusal (r .session) x) 0) (wentOn r next x) (stopped r end (readRefusal (r .session) x))
 
--- what a turn of the code answers
-pub record TurnOf (s : List ℕ) (r : Runner) (t : Turn) : Type 0 where
-  pub runner : t .runner ≡ nextRunner s r
-  pub record-said : said (t .said) ≡ saidAt s r
-
--- the same of what was read, with the end of the file and the place of the next record
-pub record Took (r : Runner) (end next : ℕ) (x : Read) (t : Turn) : Type 0 where
-  pub runner : t .runner
-      ≡ cond (eqb (readRefusal (r .session) x) 0)
-      (record { stage = readStage x; session = readEffect (r .session) x; at = next })
-      (record { stage = r .stage; session = r .session; at = end })
-  pub record-said : said (t .said) ≡ cond (eqb (readRefusal (r .session) x) 0) (readSaid (r .session) x) (lines.refused (readRefusal (r .session) x))
+-- the turn of the record at the runner's place: the runner after it, and what is said of it
+unfoldable pub turnAt : List ℕ → Runner → Turn
+turnAt s r = took r (length s) (r .at + widthOf (markAt (drop (r .at) s))) (readAt s r)

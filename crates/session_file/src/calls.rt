@@ -1,17 +1,17 @@
 // The call that a record says: a match over its mark chooses the reader.
 ghost use mathlib.Core.Path.{_≡_};
 ghost use Prim.Native.Nat.{ℕ, _≤_};
-ghost use Rattle.auction_engine.specs.Engine.{callOf};
 ghost use Rattle.auction_engine.specs.Call as call;
 ghost use Rattle.session_file.specs.Bytes.{word, bytesAt, timeAt, flagAt};
-ghost use Rattle.session_file.specs.Calls.{blankCall, CallRead, Says};
+ghost use Rattle.session_file.specs.Records.{fieldsOf};
+ghost use Rattle.session_file.specs.Calls.{blankCall, recordOf, callRead};
 use crate::bytes;
 use crate::records::Mark;
 use auction_engine::CallRecord;
 
 // Of a mark that is no call's, the blank call.
 pub fn read_call(m: Mark, rec: &[u8]) -> CallRecord
-    ensures { λ r. ⌜ CallRead m (now (rec .entry)) r ⌝ }
+    ensures { λ r. ⌜ r ≡ callRead (fieldsOf m (now (rec .entry))) ⌝ }
 {
     match m {
         Mark::Unknown => blank(0, 0),
@@ -50,7 +50,7 @@ fn blank(kind: u8, now: i64) -> CallRecord
 }
 
 fn read_screen(rec: &[u8]) -> CallRecord
-    ensures { λ r. ⌜ Says r 0 (call.screen (timeAt (now (rec .entry)) 2) (word 1 (now (rec .entry)) 10) (word 1 (now (rec .entry)) 11) (word 1 (now (rec .entry)) 12) (flagAt (now (rec .entry)) 13) (bytesAt 16 (now (rec .entry)) 14)) ⌝ }
+    ensures { λ r. ⌜ r ≡ recordOf (call.screen (timeAt (now (rec .entry)) 2) (word 1 (now (rec .entry)) 10) (word 1 (now (rec .entry)) 11) (word 1 (now (rec .entry)) 12) (flagAt (now (rec .entry)) 13) (bytesAt 16 (now (rec .entry)) 14)) ⌝ }
 {
     let id = bytes::id_at(rec, 14);
     let mut c = blank(auction_engine::SCREEN, bytes::time_at(rec, 2));
@@ -63,7 +63,7 @@ fn read_screen(rec: &[u8]) -> CallRecord
 }
 
 fn read_allocate(rec: &[u8]) -> CallRecord
-    ensures { λ r. ⌜ Says r 2 (call.allocate (timeAt (now (rec .entry)) 2) (word 1 (now (rec .entry)) 10)) ⌝ }
+    ensures { λ r. ⌜ r ≡ recordOf (call.allocate (timeAt (now (rec .entry)) 2) (word 1 (now (rec .entry)) 10)) ⌝ }
 {
     let mut c = blank(auction_engine::ALLOCATE, bytes::time_at(rec, 2));
     c.max_fills = bytes::u8_at(rec, 10);
@@ -71,7 +71,7 @@ fn read_allocate(rec: &[u8]) -> CallRecord
 }
 
 fn read_exercise(rec: &[u8]) -> CallRecord
-    ensures { λ r. ⌜ Says r 3 (call.exercise (timeAt (now (rec .entry)) 2) (bytesAt 32 (now (rec .entry)) 10) (word 4 (now (rec .entry)) 42) (word 8 (now (rec .entry)) 46)) ⌝ }
+    ensures { λ r. ⌜ r ≡ recordOf (call.exercise (timeAt (now (rec .entry)) 2) (bytesAt 32 (now (rec .entry)) 10) (word 4 (now (rec .entry)) 42) (word 8 (now (rec .entry)) 46)) ⌝ }
 {
     let issuer = bytes::key_at(rec, 10);
     let mut c = blank(auction_engine::EXERCISE, bytes::time_at(rec, 2));
@@ -82,7 +82,7 @@ fn read_exercise(rec: &[u8]) -> CallRecord
 }
 
 fn read_close(rec: &[u8]) -> CallRecord
-    ensures { λ r. ⌜ Says r 4 (call.close (timeAt (now (rec .entry)) 2) (bytesAt 32 (now (rec .entry)) 10)) ⌝ }
+    ensures { λ r. ⌜ r ≡ recordOf (call.close (timeAt (now (rec .entry)) 2) (bytesAt 32 (now (rec .entry)) 10)) ⌝ }
 {
     let caller = bytes::key_at(rec, 10);
     let mut c = blank(auction_engine::CLOSE, bytes::time_at(rec, 2));
@@ -91,7 +91,7 @@ fn read_close(rec: &[u8]) -> CallRecord
 }
 
 fn read_settle(rec: &[u8]) -> CallRecord
-    ensures { λ r. ⌜ Says r 5 (call.settle (word 4 (now (rec .entry)) 2)) ⌝ }
+    ensures { λ r. ⌜ r ≡ recordOf (call.settle (word 4 (now (rec .entry)) 2)) ⌝ }
 {
     let mut c = blank(auction_engine::SETTLE, 0);
     c.fill = bytes::u32_at(rec, 2);
@@ -99,7 +99,7 @@ fn read_settle(rec: &[u8]) -> CallRecord
 }
 
 fn read_skip(rec: &[u8]) -> CallRecord
-    ensures { λ r. ⌜ Says r 6 (call.skip (timeAt (now (rec .entry)) 2) (word 4 (now (rec .entry)) 10) (word 1 (now (rec .entry)) 14)) ⌝ }
+    ensures { λ r. ⌜ r ≡ recordOf (call.skip (timeAt (now (rec .entry)) 2) (word 4 (now (rec .entry)) 10) (word 1 (now (rec .entry)) 14)) ⌝ }
 {
     let mut c = blank(auction_engine::SKIP, bytes::time_at(rec, 2));
     c.fill = bytes::u32_at(rec, 10);

@@ -3,11 +3,9 @@ ghost use mathlib.Core.Path.{_≡_};
 ghost use mathlib.Core.Bool.{Bool, true, false, cond};
 ghost use Prim.Native.Nat.{ℕ, _+_, _<_, _≤_};
 ghost use lib.ListN.{length, drop};
-ghost use Rattle.listing.specs.Lines.{said};
-ghost use Rattle.listing.specs.Lines as lines;
 ghost use Rattle.auction_engine.specs.Engine.{callOf};
 ghost use Rattle.session_file.specs.Records.{header, order, call};
-ghost use Rattle.session_file.specs.Runner.{start, saidOf, TurnOf, Took};
+ghost use Rattle.session_file.specs.Runner.{start, saying, saidOf, stopped, took, turnAt};
 use crate::bytes;
 use crate::calls;
 use crate::opening;
@@ -65,7 +63,7 @@ pub fn begin() -> Runner
 
 // The next record: what it makes of the runner, and what is said of it.
 pub fn next_turn(r: Runner, input: &[u8]) -> Turn
-    ensures { λ t. ⌜ TurnOf (now (input .entry)) r t ⌝ }
+    ensures { λ t. ⌜ t ≡ turnAt (now (input .entry)) r ⌝ }
 {
     let at = r.at;
     let end = input.len();
@@ -102,7 +100,7 @@ fn rest_of(input: &[u8], at: usize) -> &[u8]
 }
 
 fn header_turn(r: Runner, end: usize, next: usize, p: Params, g: Given) -> Turn
-    ensures { λ t. ⌜ Took r end next (header p g) t ⌝ }
+    ensures { λ t. ⌜ t ≡ took r end next (header p g) ⌝ }
 {
     let refusal = opening::header_refusal(p, g);
     if refusal != 0 {
@@ -112,7 +110,7 @@ fn header_turn(r: Runner, end: usize, next: usize, p: Params, g: Given) -> Turn
 }
 
 fn order_turn(r: Runner, end: usize, next: usize, row: Row) -> Turn
-    ensures { λ t. ⌜ Took r end next (order row) t ⌝ }
+    ensures { λ t. ⌜ t ≡ took r end next (order row) ⌝ }
 {
     let s = r.session;
     let refusal = opening::order_refusal(s, row);
@@ -126,7 +124,7 @@ fn order_turn(r: Runner, end: usize, next: usize, row: Row) -> Turn
 // A call: refused or not, the file goes on.
 fn call_turn(r: Runner, end: usize, next: usize, c: CallRecord) -> Turn
     requires { ⌜ c .kind ≤ 8 ⌝ }
-    ensures { λ t. ⌜ Took r end next (call (callOf c)) t ⌝ }
+    ensures { λ t. ⌜ t ≡ took r end next (call (callOf c)) ⌝ }
 {
     let refusal = auction_engine::arguments_refusal(c);
     if refusal != 0 {
@@ -147,14 +145,14 @@ fn go_on(stage: u8, session: Session, at: usize, what: Record) -> Turn
 
 // A record that ends the file: nothing after it is read.
 fn stop(r: Runner, end: usize, refusal: u8) -> Turn
-    ensures { λ t. ⌜ (t .runner ≡ record { stage = r .stage; session = r .session; at = end }) × (said (t .said) ≡ lines.refused refusal) ⌝ }
+    ensures { λ t. ⌜ t ≡ stopped r end refusal ⌝ }
 {
     let session = r.session;
     go_on(r.stage, session, end, refused(refusal))
 }
 
 fn opened() -> Record
-    ensures { λ r. ⌜ said r ≡ lines.opened ⌝ }
+    ensures { λ r. ⌜ r ≡ saying 0 0 ⌝ }
 {
     let events = Events::none();
     Record {
@@ -165,7 +163,7 @@ fn opened() -> Record
 }
 
 fn ordered(number: u64) -> Record
-    ensures { λ r. ⌜ said r ≡ lines.ordered number ⌝ }
+    ensures { λ r. ⌜ r ≡ saying 1 number ⌝ }
 {
     let events = Events::none();
     Record {
@@ -176,7 +174,7 @@ fn ordered(number: u64) -> Record
 }
 
 pub fn refused(refusal: u8) -> Record
-    ensures { λ r. ⌜ said r ≡ lines.refused refusal ⌝ }
+    ensures { λ r. ⌜ r ≡ saying 2 refusal ⌝ }
 {
     let events = Events::none();
     Record {
@@ -188,7 +186,7 @@ pub fn refused(refusal: u8) -> Record
 
 // What a call answered.
 fn answered(a: Answer) -> Record
-    ensures { λ r. ⌜ said r ≡ saidOf a ⌝ }
+    ensures { λ r. ⌜ r ≡ saidOf a ⌝ }
 {
     if a.refusal != 0 {
         return refused(a.refusal);

@@ -77,7 +77,7 @@ loop-less c =
     let j = c .before .before .before .before .before .before .before .before .before in
     let k = j .before .before .before .before .before .before .before in
     let o = onward (k .args .input .now) (j .before .before .before .loop .r) (j .before .if1 .taken) in
-    rw (j .next-turn .ensures .runner) (omega (arith, o .on, o .within))
+    rw (j .next-turn .ensures) (omega (arith, o .on, o .within))
 
 loop-again : tie.Need-loop-again Inv-loop μ-loop
 loop-again c =

@@ -1,10 +1,8 @@
 -- `session_file::calls::read_allocate` meets its contract, field by field.
 -- Assumes nothing.
-use mathlib.Core.Path.{refl}
 use mir.Facts.{toZ-ofZ}
 use mir.Syntax.{w64}
 use borrow.Author.Needs.{needs}
-use Rattle.auction_engine.specs.Engine.{callOf}
 use Rattle.session_file.proofs.calls.read_allocate.Statement.{statement}
 use Rattle.session_file.proofs.calls.read_allocate.Tie as tie
 
@@ -18,7 +16,6 @@ u8-at-requires : tie.Need-u8-at-requires
 u8-at-requires c κs = search needs
 
 returns : tie.Need-returns
-unfolding callOf
 returns c =
     rw (
       c .before .blank .ensures,
@@ -26,7 +23,6 @@ returns c =
       c .before .before .time-at .ensures,
       c .u8-at .ensures,
     )
-    (record { kind-is = refl; call-is = refl })
 
 pub read-allocate-spec : {M : Type 1} → statement M
 read-allocate-spec = tie.close (tie.spec time-at-requires blank-requires u8-at-requires returns)

@@ -1,12 +1,9 @@
 -- `session_file::calls::read_call` meets its contract, arm by arm.
 -- Assumes nothing.
-use mathlib.Core.Path.{refl}
-use native.Mathlib.Omega.{arith}
 use mir.Facts.{toZ-ofZ}
 use mir.Syntax.{w64}
 use borrow.Author.Needs.{needs}
 use Rattle.session_file.specs.Records.{fieldsOf}
-use Rattle.session_file.proofs.Sayings.{says-clear, says-finish, says-expire, read-call, read-other}
 use Rattle.session_file.proofs.calls.read_call.Statement.{statement}
 use Rattle.session_file.proofs.calls.read_call.Tie as tie
 
@@ -92,55 +89,52 @@ blank-requires-6 : tie.Need-blank-requires-6
 blank-requires-6 c κs = search needs
 
 returns : tie.Need-returns
-returns c = rw (c .before .enum-told .given .1) (read-other (λ e. omega arith) (c .blank .ensures))
+unfolding fieldsOf
+returns c = rw (c .before .enum-told .given .1, c .blank .ensures)
 
 returns-2 : tie.Need-returns-2
-returns-2 c = rw (c .before .enum-told2 .given .1) (read-other (λ e. omega arith) (c .blank2 .ensures))
+unfolding fieldsOf
+returns-2 c = rw (c .before .enum-told2 .given .1, c .blank2 .ensures)
 
 returns-3 : tie.Need-returns-3
-returns-3 c = rw (c .before .enum-told3 .given .1) (read-other (λ e. omega arith) (c .blank3 .ensures))
+unfolding fieldsOf
+returns-3 c = rw (c .before .enum-told3 .given .1, c .blank3 .ensures)
 
 returns-4 : tie.Need-returns-4
 unfolding fieldsOf
-returns-4 c = rw (c .before .enum-told4 .given .1) (read-call refl refl (omega arith) (c .read-screen .ensures))
+returns-4 c = rw (c .before .enum-told4 .given .1, c .read-screen .ensures)
 
 returns-5 : tie.Need-returns-5
 unfolding fieldsOf
-returns-5 c =
-    let now-is = says-clear (rw (toZ-ofZ {w = w64} (record { sfits = c .before .time-at .ok }), c .before .time-at .ensures) at (c .blank4 .ensures)) in
-    rw (c .before .before .enum-told5 .given .1) (read-call refl refl (omega arith) now-is)
+returns-5 c = rw (c .before .before .enum-told5 .given .1, c .blank4 .ensures, toZ-ofZ {w = w64} (record { sfits = c .before .time-at .ok }), c .before .time-at .ensures)
 
 returns-6 : tie.Need-returns-6
 unfolding fieldsOf
-returns-6 c = rw (c .before .enum-told6 .given .1) (read-call refl refl (omega arith) (c .read-allocate .ensures))
+returns-6 c = rw (c .before .enum-told6 .given .1, c .read-allocate .ensures)
 
 returns-7 : tie.Need-returns-7
 unfolding fieldsOf
-returns-7 c = rw (c .before .enum-told7 .given .1) (read-call refl refl (omega arith) (c .read-exercise .ensures))
+returns-7 c = rw (c .before .enum-told7 .given .1, c .read-exercise .ensures)
 
 returns-8 : tie.Need-returns-8
 unfolding fieldsOf
-returns-8 c = rw (c .before .enum-told8 .given .1) (read-call refl refl (omega arith) (c .read-close .ensures))
+returns-8 c = rw (c .before .enum-told8 .given .1, c .read-close .ensures)
 
 returns-9 : tie.Need-returns-9
 unfolding fieldsOf
-returns-9 c = rw (c .before .enum-told9 .given .1) (read-call refl refl (omega arith) (c .read-settle .ensures))
+returns-9 c = rw (c .before .enum-told9 .given .1, c .read-settle .ensures)
 
 returns-10 : tie.Need-returns-10
 unfolding fieldsOf
-returns-10 c = rw (c .before .enum-told10 .given .1) (read-call refl refl (omega arith) (c .read-skip .ensures))
+returns-10 c = rw (c .before .enum-told10 .given .1, c .read-skip .ensures)
 
 returns-11 : tie.Need-returns-11
 unfolding fieldsOf
-returns-11 c =
-    let now-is = says-finish (rw (toZ-ofZ {w = w64} (record { sfits = c .before .time-at2 .ok }), c .before .time-at2 .ensures) at (c .blank5 .ensures)) in
-    rw (c .before .before .enum-told11 .given .1) (read-call refl refl (omega arith) now-is)
+returns-11 c = rw (c .before .before .enum-told11 .given .1, c .blank5 .ensures, toZ-ofZ {w = w64} (record { sfits = c .before .time-at2 .ok }), c .before .time-at2 .ensures)
 
 returns-12 : tie.Need-returns-12
 unfolding fieldsOf
-returns-12 c =
-    let now-is = says-expire (rw (toZ-ofZ {w = w64} (record { sfits = c .before .time-at3 .ok }), c .before .time-at3 .ensures) at (c .blank6 .ensures)) in
-    rw (c .before .before .enum-told12 .given .1) (read-call refl refl (omega arith) now-is)
+returns-12 c = rw (c .before .before .enum-told12 .given .1, c .blank6 .ensures, toZ-ofZ {w = w64} (record { sfits = c .before .time-at3 .ok }), c .before .time-at3 .ensures)
 
 pub read-call-spec : {M : Type 1} → statement M
 read-call-spec =

@@ -1,10 +1,8 @@
 -- `session_file::calls::read_close` meets its contract, field by field.
 -- Assumes nothing.
-use mathlib.Core.Path.{refl}
 use mir.Facts.{toZ-ofZ}
 use mir.Syntax.{w64}
 use borrow.Author.Needs.{needs}
-use Rattle.auction_engine.specs.Engine.{callOf}
 use Rattle.session_file.proofs.calls.read_close.Statement.{statement}
 use Rattle.session_file.proofs.calls.read_close.Tie as tie
 
@@ -18,7 +16,6 @@ blank-requires : tie.Need-blank-requires
 blank-requires c κs = search needs
 
 returns : tie.Need-returns
-unfolding callOf
 returns c =
     rw (
       c .blank .ensures,
@@ -26,7 +23,6 @@ returns c =
       c .before .time-at .ensures,
       c .before .before .key-at .ensures,
     )
-    (record { kind-is = refl; call-is = refl })
 
 pub read-close-spec : {M : Type 1} → statement M
 read-close-spec = tie.close (tie.spec key-at-requires time-at-requires blank-requires returns)

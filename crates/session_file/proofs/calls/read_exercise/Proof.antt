@@ -1,10 +1,8 @@
 -- `session_file::calls::read_exercise` meets its contract, field by field.
 -- Assumes nothing.
-use mathlib.Core.Path.{refl}
 use mir.Facts.{toZ-ofZ}
 use mir.Syntax.{w64}
 use borrow.Author.Needs.{needs}
-use Rattle.auction_engine.specs.Engine.{callOf}
 use Rattle.session_file.proofs.calls.read_exercise.Statement.{statement}
 use Rattle.session_file.proofs.calls.read_exercise.Tie as tie
 
@@ -24,7 +22,6 @@ u64-at-requires : tie.Need-u64-at-requires
 u64-at-requires c κs = search needs
 
 returns : tie.Need-returns
-unfolding callOf
 returns c =
     rw (
       c .before .before .blank .ensures,
@@ -34,7 +31,6 @@ returns c =
       c .before .u32-at .ensures,
       c .u64-at .ensures,
     )
-    (record { kind-is = refl; call-is = refl })
 
 pub read-exercise-spec : {M : Type 1} → statement M
 read-exercise-spec =

@@ -1,10 +1,8 @@
 -- `session_file::calls::read_screen` meets its contract, field by field.
 -- Assumes nothing.
-use mathlib.Core.Path.{refl}
 use mir.Facts.{toZ-ofZ}
 use mir.Syntax.{w64}
 use borrow.Author.Needs.{needs}
-use Rattle.auction_engine.specs.Engine.{callOf}
 use Rattle.session_file.proofs.calls.read_screen.Statement.{statement}
 use Rattle.session_file.proofs.calls.read_screen.Tie as tie
 
@@ -30,7 +28,6 @@ flag-at-requires : tie.Need-flag-at-requires
 flag-at-requires c κs = search needs
 
 returns : tie.Need-returns
-unfolding callOf
 returns c =
     let j = c .before .before .before .before .before in
     rw (
@@ -43,7 +40,6 @@ returns c =
       c .before .u8-at3 .ensures,
       c .flag-at .ensures,
     )
-    (record { kind-is = refl; call-is = refl })
 
 pub read-screen-spec : {M : Type 1} → statement M
 read-screen-spec =

@@ -1,8 +1,6 @@
 -- `session_file::calls::read_settle` meets its contract, field by field.
 -- Assumes nothing.
-use mathlib.Core.Path.{refl}
 use borrow.Author.Needs.{needs}
-use Rattle.auction_engine.specs.Engine.{callOf}
 use Rattle.session_file.proofs.calls.read_settle.Statement.{statement}
 use Rattle.session_file.proofs.calls.read_settle.Tie as tie
 
@@ -13,13 +11,11 @@ u32-at-requires : tie.Need-u32-at-requires
 u32-at-requires c κs = search needs
 
 returns : tie.Need-returns
-unfolding callOf
 returns c =
     rw (
       c .before .blank .ensures,
       c .u32-at .ensures,
     )
-    (record { kind-is = refl; call-is = refl })
 
 pub read-settle-spec : {M : Type 1} → statement M
 read-settle-spec = tie.close (tie.spec blank-requires u32-at-requires returns)

@@ -1,10 +1,8 @@
 -- `session_file::calls::read_skip` meets its contract, field by field.
 -- Assumes nothing.
-use mathlib.Core.Path.{refl}
 use mir.Facts.{toZ-ofZ}
 use mir.Syntax.{w64}
 use borrow.Author.Needs.{needs}
-use Rattle.auction_engine.specs.Engine.{callOf}
 use Rattle.session_file.proofs.calls.read_skip.Statement.{statement}
 use Rattle.session_file.proofs.calls.read_skip.Tie as tie
 
@@ -21,7 +19,6 @@ u8-at-requires : tie.Need-u8-at-requires
 u8-at-requires c κs = search needs
 
 returns : tie.Need-returns
-unfolding callOf
 returns c =
     rw (
       c .before .before .blank .ensures,
@@ -30,7 +27,6 @@ returns c =
       c .before .u32-at .ensures,
       c .u8-at .ensures,
     )
-    (record { kind-is = refl; call-is = refl })
 
 pub read-skip-spec : {M : Type 1} → statement M
 read-skip-spec =

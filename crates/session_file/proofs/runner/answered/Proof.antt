@@ -2,7 +2,6 @@
 -- Assumes nothing.
 use borrow.Author.Needs.{needs}
 use borrow.Author.Tests.{eq-eqb, ne-eqb}
-use Rattle.listing.specs.Lines.{said}
 use Rattle.session_file.proofs.runner.answered.Statement.{statement}
 use Rattle.session_file.proofs.runner.answered.Tie as tie
 
@@ -13,7 +12,6 @@ returns : tie.Need-returns
 returns c = rw (c .refused .ensures, ne-eqb _ 0 (c .before .if1 .taken))
 
 returns-2 : tie.Need-returns-2
-unfolding said
 returns-2 c = rw (eq-eqb _ 0 (c .before .if1 .left))
 
 pub answered-spec : {M : Type 1} → statement M

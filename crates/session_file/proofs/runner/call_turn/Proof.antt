@@ -20,7 +20,7 @@ unfolding readRefusal
 returns c =
     let a = c .before .before .before .args in
     let h = c .before .before .arguments-refusal in
-    took-stop (call (callOf (a .c))) (h .result) (h .ensures) (c .before .if1 .taken) (c .stop .ensures)
+    took-stop (a .r) (a .end) (a .next) (call (callOf (a .c))) (h .result) (h .ensures) (c .before .if1 .taken) (c .stop .ensures)
 
 apply-requires : tie.Need-apply-requires
 apply-requires c κs = search needs
@@ -38,8 +38,8 @@ returns-2 c =
     let a = j .before .before .args in
     let h = j .before .arguments-refusal in
     let known = le-leb _ 8 (j .before .before .pre) in
-    took-on (call (callOf (a .c))) (h .result) (h .ensures) (j .if1 .left) (c .before .answered .result)
-    (rw (c .before .before .before .apply .ensures, known) at (c .go-on .ensures)) (rw (c .before .before .before .apply .ensures, known) at (c .before .answered .ensures))
+    took-on (a .r) (a .end) (a .next) (call (callOf (a .c))) (h .result) (h .ensures) (j .if1 .left)
+    (rw (c .before .answered .ensures, c .before .before .before .apply .ensures, known) at (c .go-on .ensures))
 
 pub call-turn-spec : {M : Type 1} → statement M
 call-turn-spec =

@@ -18,7 +18,7 @@ unfolding readRefusal
 returns c =
     let a = c .before .before .before .args in
     let h = c .before .before .header-refusal in
-    took-stop (header (a .p) (a .g)) (h .result) (h .ensures) (c .before .if1 .taken) (c .stop .ensures)
+    took-stop (a .r) (a .end) (a .next) (header (a .p) (a .g)) (h .result) (h .ensures) (c .before .if1 .taken) (c .stop .ensures)
 
 new-requires : tie.Need-new-requires
 new-requires c κs = search needs
@@ -35,8 +35,8 @@ returns-2 c =
     let j = c .before .before .before .before .before in
     let a = j .args in
     let h = c .before .before .before .before .header-refusal in
-    took-on (header (a .p) (a .g)) (h .result) (h .ensures) (c .before .before .before .if1 .left) (c .before .opened .result)
-    (rw (← c .before .before .new .ensures) (c .go-on .ensures)) (c .before .opened .ensures)
+    took-on (a .r) (a .end) (a .next) (header (a .p) (a .g)) (h .result) (h .ensures) (c .before .before .before .if1 .left)
+    (rw (c .before .before .new .ensures, c .before .opened .ensures) at (c .go-on .ensures))
 
 pub header-turn-spec : {M : Type 1} → statement M
 header-turn-spec =

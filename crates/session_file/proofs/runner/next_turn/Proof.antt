@@ -2,6 +2,8 @@
 -- Assumes nothing.
 use native.Mathlib.Omega.{arith}
 use borrow.Author.Needs.{needs}
+use Rattle.session_file.specs.Records.{fieldsOf}
+use Rattle.session_file.proofs.Sayings.{read-known}
 use Rattle.session_file.proofs.Turns.{turn-stop, next-within, turn-header, turn-order, turn-call}
 use Rattle.session_file.proofs.runner.next_turn.Statement.{statement}
 use Rattle.session_file.proofs.runner.next_turn.Tie as tie
@@ -60,7 +62,7 @@ read-call-requires : tie.Need-read-call-requires
 read-call-requires c κs = search needs
 
 call-turn-requires : tie.Need-call-turn-requires
-call-turn-requires c κs = c .read-call .ensures .known
+call-turn-requires c κs = rw (c .read-call .ensures) (read-known (fieldsOf (c .before .before .before .before .mark-of .result) (c .before .before .before .before .before .before .before .before .rest-of .result .now)))
 
 returns-2 : tie.Need-returns-2
 returns-2 c =

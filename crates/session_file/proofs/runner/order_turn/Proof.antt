@@ -21,7 +21,7 @@ unfolding readRefusal
 returns c =
     let a = c .before .before .before .before .args in
     let h = c .before .before .order-refusal in
-    took-stop (order (a .row)) (h .result) (h .ensures) (c .before .if1 .taken) (c .stop .ensures)
+    took-stop (a .r) (a .end) (a .next) (order (a .row)) (h .result) (h .ensures) (c .before .if1 .taken) (c .stop .ensures)
 
 with-order-requires : tie.Need-with-order-requires
 with-order-requires c κs = search needs
@@ -39,8 +39,8 @@ returns-2 c =
     let a = j .args in
     let h = c .before .before .before .before .order-refusal in
     let room = order-room (a .r .session) (a .row) (sym (h .ensures) ∙ c .before .before .before .if1 .left) in
-    took-on (order (a .row)) (h .result) (h .ensures) (c .before .before .before .if1 .left) (c .before .ordered .result)
-    (rw (c .before .before .with-order .ensures, lt-ltb _ _ room) at (c .go-on .ensures)) (c .before .ordered .ensures)
+    took-on (a .r) (a .end) (a .next) (order (a .row)) (h .result) (h .ensures) (c .before .before .before .if1 .left)
+    (rw (c .before .before .with-order .ensures, lt-ltb _ _ room, c .before .ordered .ensures) at (c .go-on .ensures))
 
 pub order-turn-spec : {M : Type 1} → statement M
 order-turn-spec =

@@ -1,8 +1,6 @@
--- `session_file::runner::ordered` meets its contract, by its kind.
+-- `session_file::runner::ordered` meets its contract, from what no events are.
 -- Assumes nothing.
-use mathlib.Core.Path.{refl}
 use borrow.Author.Needs.{needs}
-use Rattle.listing.specs.Lines.{said}
 use Rattle.session_file.proofs.runner.ordered.Statement.{statement}
 use Rattle.session_file.proofs.runner.ordered.Tie as tie
 
@@ -10,8 +8,7 @@ none-requires : tie.Need-none-requires
 none-requires c κs = search needs
 
 returns : tie.Need-returns
-unfolding said
-returns c = refl
+returns c = rw (c .none .ensures)
 
 pub ordered-spec : {M : Type 1} → statement M
 ordered-spec = tie.close (tie.spec none-requires returns)

@@ -11,7 +11,7 @@ go-on-requires : tie.Need-go-on-requires
 go-on-requires c κs = search needs
 
 returns : tie.Need-returns
-returns c = rw (c .go-on .ensures) (search needs, c .before .refused .ensures)
+returns c = rw (c .go-on .ensures, c .before .refused .ensures)
 
 pub stop-spec : {M : Type 1} → statement M
 stop-spec = tie.close (tie.spec refused-requires go-on-requires returns)
