@@ -1,12 +1,7 @@
-//! Links the static library of the crate `session_file`.
-use std::{env, path::Path};
+//! Links the static libraries of the crates `session_file` and `order_slices`.
+include!("../link.rs");
 
 fn main() {
-    let here = env::var("CARGO_MANIFEST_DIR").expect("cargo sets it");
-    let folder = Path::new(&here).join("../../target/staticlib");
-    let library = folder.join("libsession_file.a");
-    assert!(library.exists(), "no {}: `rt staticlib session_file` makes it", library.display());
-    println!("cargo:rustc-link-search=native={}", folder.display());
-    println!("cargo:rustc-link-lib=static=session_file");
-    println!("cargo:rerun-if-changed={}", library.display());
+    link("session_file");
+    link("order_slices");
 }

@@ -1,7 +1,8 @@
-//! `functions [--seed S] [--cases N]`: the price search and pro-rata through the published source and through ours, one answer after
-//! the other.
+//! `functions [--seed S] [--cases N]`: the price search and pro-rata through the published source and through ours, on parallel slices
+//! and on records, one answer after the other.
 mod case;
-mod ours;
+mod records;
+mod slices;
 
 use case::Case;
 use oracle::random::Random;
@@ -29,24 +30,17 @@ fn compare(r: &mut Random, count: u64) -> u64 {
     let mut different = 0;
     for _ in 0..count {
         let case = Case::any(r);
-        let (source, ours) = (oracle::functions::answer(&case.words()), answer(&case));
+        let (source, slices, records) = (oracle::functions::answer(&case.words()), slices::answer(&case), records::answer(&case));
         *seen.entry(kind(&case, &source)).or_insert(0u64) += 1;
-        if source != ours {
+        if source != slices || source != records {
             different += 1;
             if different <= 5 {
-                println!("{}\n  source: {source}\n  ours:   {ours}", case.words());
+                println!("{}\n  source:  {source}\n  slices:  {slices}\n  records: {records}", case.words());
             }
         }
     }
     seen.iter().for_each(|(what, n)| println!("{n:8} {what}"));
     different
-}
-
-fn answer(case: &Case) -> String {
-    match case {
-        Case::Price { is_buy, limits, qtys, reserve, reference } => ours::price(is_buy, limits, qtys, *reserve, *reference),
-        Case::ProRata { total, ids, qtys } => ours::pro_rata(*total, ids, qtys, qtys.len()),
-    }
 }
 
 /// What kind of answer it is, for the counts.
@@ -66,10 +60,10 @@ fn unequal_lengths_are_refused(r: &mut Random) -> bool {
     let (one, other) = (vec![1; n], vec![1; m]);
     let sides = vec![true; n];
     let all = [
-        ours::price(&sides, &other, &one, 0, 0),
-        ours::price(&sides, &one, &other, 0, 0),
-        ours::pro_rata(0, &other, &one, n),
-        ours::pro_rata(0, &one, &one, m),
+        slices::price(&sides, &other, &one, 0, 0),
+        slices::price(&sides, &one, &other, 0, 0),
+        slices::pro_rata(0, &other, &one, n),
+        slices::pro_rata(0, &one, &one, m),
     ];
     all.iter().all(|a| a == "refused 30")
 }

@@ -1,4 +1,4 @@
-//! Session files cleared by the proved library, for a host in Rust.
+//! The proved libraries for a host in Rust: session files, and the price search and pro-rata on records.
 //!
 //! A session file goes in, its listing comes out; `docs/SESSION-FILE.md` describes both. A file that is turned away has a listing too,
 //! which says at which record and why.
@@ -9,10 +9,12 @@
 //! assert_eq!(listing, b"0 refused 2\nend none\n");
 //! ```
 //!
-//! The static library is made by `rt staticlib session_file`, at the top of the repository.
+//! The static libraries are made by `rt staticlib session_file` and `rt staticlib order_slices`, at the top of the repository.
+mod allocation;
 mod entry;
 mod refusal;
 
+pub use allocation::{allocate_pro_rata, allocate_pro_rata_into, find_uniform_clear_price, Bid, Cross, Order};
 pub use entry::clear_session_file;
 pub use refusal::Refusal;
 
@@ -38,5 +40,5 @@ pub fn listing(file: &[u8]) -> Result<Vec<u8>, Refusal> {
 /// The same into a lent output: the length of the listing at its start, with the bytes after it untouched. A refusal zeroes it all.
 pub fn listing_into(file: &[u8], output: &mut [u8]) -> Result<usize, Refusal> {
     let answer = clear_session_file(file, output);
-    usize::try_from(answer).map_err(|_| Refusal::of(answer))
+    usize::try_from(answer).map_err(|_| Refusal::of(answer.unsigned_abs() as u8))
 }

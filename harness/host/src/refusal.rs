@@ -1,40 +1,49 @@
-//! Why there is no listing.
+//! Why there is no answer.
 use std::error::Error;
 use std::fmt::{Display, Formatter, Result};
 
+/// A refusal, under document 01's number.
 #[derive(Clone, Copy, Debug, PartialEq, Eq)]
+#[repr(u8)]
 pub enum Refusal {
-    /// 26: the file has more than 65,536 bytes.
-    InputTooLong,
-    /// 27: the listing is longer than the output.
-    OutputTooSmall,
+    /// The session file has more than 65,536 bytes.
+    InputTooLong = 26,
+    /// The listing is longer than the output.
+    OutputTooSmall = 27,
+    /// A total above 0 over bids of quantity 0.
+    InvalidInput = 28,
+    /// A total above the sum of the bids.
+    OverAllocation = 29,
+    /// Over 16 entries, or an output of another length.
+    BadLength = 30,
 }
+
+const ALL: [Refusal; 5] =
+    [Refusal::InputTooLong, Refusal::OutputTooSmall, Refusal::InvalidInput, Refusal::OverAllocation, Refusal::BadLength];
 
 impl Refusal {
     /// Document 01's number.
     pub fn number(self) -> u8 {
-        match self {
-            Refusal::InputTooLong => 26,
-            Refusal::OutputTooSmall => 27,
-        }
+        self as u8
     }
 
-    /// The refusal that a negative answer of the C entry is. Its contract leaves no other.
-    pub(crate) fn of(answer: i64) -> Refusal {
-        match answer {
-            -26 => Refusal::InputTooLong,
-            -27 => Refusal::OutputTooSmall,
-            _ => unreachable!("the C entry answered {answer}"),
-        }
+    /// The refusal of a number that a function of the library answered. Their contracts leave no other.
+    pub(crate) fn of(number: u8) -> Refusal {
+        let named = ALL.into_iter().find(|r| r.number() == number);
+        named.unwrap_or_else(|| unreachable!("the library refused with {number}"))
     }
 }
 
 impl Display for Refusal {
     fn fmt(&self, f: &mut Formatter) -> Result {
-        f.write_str(match self {
-            Refusal::InputTooLong => "the session file has more than 65,536 bytes (refusal 26)",
-            Refusal::OutputTooSmall => "the listing is longer than the output (refusal 27)",
-        })
+        let why = match self {
+            Refusal::InputTooLong => "the session file has more than 65,536 bytes",
+            Refusal::OutputTooSmall => "the listing is longer than the output",
+            Refusal::InvalidInput => "a total above 0 has nothing to be shared over",
+            Refusal::OverAllocation => "the total is above the sum of the bids",
+            Refusal::BadLength => "there are over 16 entries, or the output has another length",
+        };
+        write!(f, "{why} (refusal {})", self.number())
     }
 }
 

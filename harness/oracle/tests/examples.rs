@@ -1,22 +1,6 @@
-//! The examples of the repository and document 01's own, on the published source.
+//! Document 01's examples, on the published source.
 use credit_math::{allocate_pro_rata, find_uniform_clear_price, MathError, Order};
 use oracle::record::{self, Call, Header};
-use std::{fs, path::Path};
-
-#[test]
-fn example_files() {
-    let folder = Path::new(env!("CARGO_MANIFEST_DIR")).join("../../examples");
-    let mut seen = 0;
-    for entry in fs::read_dir(folder).unwrap() {
-        let path = entry.unwrap().path();
-        if path.extension().is_some_and(|e| e == "session") {
-            let listing = fs::read_to_string(path.with_extension("listing")).unwrap();
-            assert_eq!(oracle::listing(&fs::read(&path).unwrap()), listing, "{}", path.display());
-            seen += 1;
-        }
-    }
-    assert!(seen > 0);
-}
 
 /// Two bids and two asks at limit 1, screened and cleared.
 fn two_and_two(first: u64, second: u64) -> String {

@@ -1,21 +1,6 @@
-//! The examples of the repository through the library, and the edges of its answers.
-use host::{listing, listing_into, Refusal, MAX_FILE};
+//! The edges of the library's answers.
+use host::{allocate_pro_rata_into, find_uniform_clear_price, listing, listing_into, Bid, Order, Refusal, MAX_FILE};
 use std::{fs, path::Path};
-
-#[test]
-fn example_files() {
-    let folder = Path::new(env!("CARGO_MANIFEST_DIR")).join("../../examples");
-    let mut seen = 0;
-    for entry in fs::read_dir(folder).unwrap() {
-        let path = entry.unwrap().path();
-        if path.extension().is_some_and(|e| e == "session") {
-            let expected = fs::read(path.with_extension("listing")).unwrap();
-            assert_eq!(listing(&fs::read(&path).unwrap()).unwrap(), expected, "{}", path.display());
-            seen += 1;
-        }
-    }
-    assert!(seen > 0);
-}
 
 #[test]
 fn no_file_above_the_limit() {
@@ -41,4 +26,23 @@ fn the_output_grows() {
     }
     let text = String::from_utf8(listing(&file).unwrap()).unwrap();
     assert!(text.ends_with(" refused 10\nend 5 1\n"));
+}
+
+#[test]
+fn records_over_the_limit() {
+    let orders = [Order { bidder_id: 1, limit_price: 1, qty: 1, is_buy: true }; 17];
+    assert_eq!(find_uniform_clear_price(&orders[..16], 0, 0), Ok(None));
+    assert_eq!(find_uniform_clear_price(&orders, 0, 0), Err(Refusal::BadLength));
+}
+
+#[test]
+fn lent_lots() {
+    let bids = [Bid { id: 1, qty: 5 }, Bid { id: 2, qty: 3 }];
+    let mut lots = [7; 3];
+    assert_eq!(allocate_pro_rata_into(7, &bids, &mut lots), Err(Refusal::BadLength));
+    assert_eq!(allocate_pro_rata_into(9, &bids, &mut lots[..2]), Err(Refusal::OverAllocation));
+    assert_eq!(allocate_pro_rata_into(1, &[], &mut lots[..0]), Err(Refusal::InvalidInput));
+    assert_eq!(lots, [7; 3]);
+    assert_eq!(allocate_pro_rata_into(7, &bids, &mut lots[..2]), Ok(()));
+    assert_eq!(lots, [5, 2, 7]);
 }

@@ -1,4 +1,5 @@
-//! The entries of the static library `harness_entries`, behind safe functions that answer in the oracle's words.
+//! The entries of the static library `harness_entries`, on parallel slices, behind safe functions that answer in the oracle's words.
+use crate::case::Case;
 
 #[repr(C)]
 struct Figures {
@@ -29,6 +30,13 @@ extern "C" {
         out: *mut u64,
         out_len: usize,
     ) -> u8;
+}
+
+pub fn answer(case: &Case) -> String {
+    match case {
+        Case::Price { is_buy, limits, qtys, reserve, reference } => price(is_buy, limits, qtys, *reserve, *reference),
+        Case::ProRata { total, ids, qtys } => pro_rata(*total, ids, qtys, qtys.len()),
+    }
 }
 
 pub fn price(is_buy: &[bool], limits: &[u64], qtys: &[u64], reserve: u64, reference: u64) -> String {

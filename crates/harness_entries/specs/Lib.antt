@@ -1,2 +1,0 @@
--- How the entries' answers are read.
-pub mod Figures
