@@ -10,7 +10,7 @@ use native.Mathlib.Omega.{arith}
 use lib.Dec.{leb}
 use lib.ListN.{length, take, drop, length-append}
 use lib.Seq.{take-all, take-at}
-use borrow.Author.Tests.{leb-true}
+use borrow.Author.Tests.{leb-true, le-leb}
 use Rattle.laws.proofs.Tests.{tested}
 use Rattle.listing.specs.declared.Written.{Written}
 use Rattle.listing.specs.Writing.{written, after, Writes, Puts}
@@ -44,3 +44,10 @@ within {text} {n} {e} {e′} p = rw (p .bytes, p .place, zero-add, length-append
 -- what stands at the start of a part after a text was written there
 pub printed : {text : List ℕ} {n : ℕ} {e e′ : List ℕ} → Puts text 0 n e e′ → take n e′ ≡ text
 printed {text} {n} {e} {e′} p = rw (p .bytes, p .place, zero-add) (take-at text (drop (length text) e) (length text) refl)
+
+-- a text that was written at the start of a part with room for it is what the writer is to leave
+pub in-place : {text : List ℕ} {n m : ℕ} {e e′ : List ℕ} → Puts text 0 n e e′ → n ≤ m → m ≤ length e → Writes text (record { refusal = 0; len = n }) e e′
+unfolding written after
+in-place {text} {n} {m} {e} {e′} p small room =
+    let fits = le-leb (length text) (length e) (omega (arith, p .place, zero-add (length text))) in
+    record { answer = rw (fits, p .place, zero-add) refl; bytes = rw fits (p .bytes) }

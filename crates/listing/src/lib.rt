@@ -52,6 +52,17 @@ pub struct Record {
 pub fn put_record(out: &mut [u8], number: u64, record: Record) -> Written
     ensures { λ r. ⌜ Writes (recordLines number (said «record»)) r (now (out .entry)) (now (out .exit)) ⌝ }
 {
+    if ROOM <= out.len() {
+        let len = put_said(out, number, record);
+        return Written { refusal: 0, len };
+    }
+    put_copied(out, number, record)
+}
+
+// The same by way of a buffer, where out may be shorter than the lines.
+fn put_copied(out: &mut [u8], number: u64, record: Record) -> Written
+    ensures { λ r. ⌜ Writes (recordLines number (said «record»)) r (now (out .entry)) (now (out .exit)) ⌝ }
+{
     let mut text = [0u8; ROOM];
     let len = print_record(&mut text, number, record);
     put_text(out, &text[..len])

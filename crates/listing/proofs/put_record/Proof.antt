@@ -1,37 +1,31 @@
--- `listing::put_record` meets its contract: what was printed into the buffer is the text that is copied.
+-- `listing::put_record` meets its contract: in place where any record's lines fit, else by way of the buffer.
 -- Assumes nothing.
-use mathlib.Core.Path.{sym}
-use lib.Seq.{length-take-le}
 use borrow.Author.Needs.{needs}
-use Rattle.listing.proofs.Answers.{within, printed}
+use Rattle.listing.proofs.Answers.{in-place}
 use Rattle.listing.proofs.put_record.Statement.{statement}
 use Rattle.listing.proofs.put_record.Tie as tie
 
-print-record-requires : tie.Need-print-record-requires
-print-record-requires c κs = search needs
-
-array-share-prefix-text : tie.Need-array-share-prefix-text
-array-share-prefix-text c = within (c .before .print-record .ensures .0)
-
-slice-aggregate-put-text : tie.Need-slice-aggregate-put-text
-slice-aggregate-put-text c = sym (length-take-le _ _ (within (c .before .before .print-record .ensures .0)))
-
-put-text-requires : tie.Need-put-text-requires
-put-text-requires c κs = search needs
+put-said-requires : tie.Need-put-said-requires
+put-said-requires c κs = search needs
 
 same-length : tie.Need-same-length
 same-length c = search needs
 
 returns : tie.Need-returns
-returns c = rw (printed (c .before .before .before .before .before .print-record .ensures .0)) at (c .before .before .put-text .ensures)
+returns c =
+    let p = c .before .before .put-said .ensures in
+    in-place (p .0) (p .1) (c .before .before .before .before .if1 .taken)
+
+put-copied-requires : tie.Need-put-copied-requires
+put-copied-requires c κs = search needs
+
+same-length-2 : tie.Need-same-length-2
+same-length-2 c = search needs
+
+returns-2 : tie.Need-returns-2
+returns-2 c = search needs
 
 pub put-record-spec : {M : Type 1} → statement M
 put-record-spec =
     tie.close
-    (tie.spec
-    print-record-requires
-    array-share-prefix-text
-    slice-aggregate-put-text
-    put-text-requires
-    same-length
-    returns)
+    (tie.spec put-said-requires same-length returns put-copied-requires same-length-2 returns-2)
