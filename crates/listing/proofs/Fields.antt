@@ -7,7 +7,7 @@ use native.Mathlib.Numerals.{add-one}
 use native.Mathlib.Omega.{arith}
 use lib.ListN.{length, getD, take, set}
 use lib.Seq.{take-suc}
-use Rattle.listing.specs.declared.Parts.{Parts}
+use Rattle.listing.specs.declared.words.Parts.{Parts}
 use Rattle.listing.specs.Words.{space, newline}
 use Rattle.listing.specs.Lines.{decimal, fields, line}
 use Rattle.listing.specs.Parts.{letters, figures, rest, partsLine}

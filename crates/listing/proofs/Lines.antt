@@ -13,8 +13,8 @@ use lib.ListN.{length, getD, take}
 use lib.Seq.{take-suc}
 use Rattle.events.specs.declared.Event.{Event}
 use Rattle.events.specs.declared.Line.{Line}
-use Rattle.listing.specs.declared.Word.{Word}
-use Rattle.listing.specs.declared.Parts.{Parts}
+use Rattle.listing.specs.declared.words.Word.{Word}
+use Rattle.listing.specs.declared.words.Parts.{Parts}
 use Rattle.listing.specs.declared.Record.{Record}
 use Rattle.listing.specs.Words.{noneWord, endWord, space, newline}
 use Rattle.listing.specs.Lines.{eventLine, eventLines, eventsIn, opened, ordered, refused, happened, recordLines, said, endLine}

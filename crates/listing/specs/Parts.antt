@@ -2,8 +2,8 @@
 use mathlib.Core.List.{List, [], _∷_, _++_}
 use Prim.Native.Nat.{ℕ, _-_, _≤_}
 use lib.ListN.{length, take, replicate}
-use Rattle.listing.specs.declared.Word.{Word}
-use Rattle.listing.specs.declared.Parts.{Parts}
+use Rattle.listing.specs.declared.words.Word.{Word}
+use Rattle.listing.specs.declared.words.Parts.{Parts}
 use Rattle.listing.specs.Words.{newline}
 use Rattle.listing.specs.Lines.{fields, line, maxLetters, maxFigures}
 

@@ -1,21 +1,21 @@
 // The text of a listing: each line writer is lent the part of the output after the lines already there.
 ghost use mathlib.Core.Path.{_≡_};
 ghost use mathlib.Core.Bool.{cond};
-ghost use mathlib.Core.List.{[], _∷_, map};
+ghost use mathlib.Core.List.{map};
 ghost use Prim.Native.Nat.{ℕ, _+_, _*_, _%_, _≤_, min};
 ghost use lib.Count.{ones};
 ghost use lib.Dec.{leb};
 ghost use lib.ListN.{length, take};
-ghost use Rattle.laws.specs.Sums.{only};
 ghost use Rattle.events.specs.Events.{maxEvents};
-ghost use Rattle.listing.specs.Lines.{decimal, fields, eventLine, eventLines, eventsIn, happened, recordLines, said, endLine, maxDigits, maxLetters, maxFigures, maxRest, maxLine, maxRecord};
-ghost use Rattle.listing.specs.Parts.{Short, parts, rest, partsLine};
+ghost use Rattle.listing.specs.Lines.{decimal, fields, eventLines, eventsIn, happened, recordLines, said, endLine, maxDigits, maxLetters, maxFigures, maxRest, maxLine, maxRecord};
+ghost use Rattle.listing.specs.Parts.{Short, rest, partsLine};
 ghost use Rattle.listing.specs.Writing.{Writes, Puts};
-use events::Event;
+use crate::words::Parts;
 use events::Events;
 use events::Line;
 use events::MAX_EVENTS;
-use events::Print;
+
+mod words;
 
 // The most digits of a number of 64 bits.
 const MAX_DIGITS: usize = 20;
@@ -121,9 +121,9 @@ fn put_said(out: &mut [u8], number: u64, record: Record) -> usize
 {
     let kind = record.kind;
     match kind {
-        0 => put_line(out, 0, number, bare(OPEN)),
-        1 => put_line(out, 0, number, one(ORDER, record.figure)),
-        2 => put_line(out, 0, number, one(REFUSED, record.figure)),
+        0 => put_line(out, 0, number, words::bare(words::OPEN)),
+        1 => put_line(out, 0, number, words::one(words::ORDER, record.figure)),
+        2 => put_line(out, 0, number, words::one(words::REFUSED, record.figure)),
         _ => {
             let events = record.events;
             let lines = events.lines;
@@ -139,7 +139,7 @@ fn put_events(out: &mut [u8], number: u64, lines: [Line; MAX_EVENTS], count: usi
 {
     let n = held(count);
     if n == 0 {
-        return put_line(out, 0, number, bare(NONE));
+        return put_line(out, 0, number, words::bare(words::NONE));
     }
     put_lines(out, number, lines, n)
 }
@@ -165,160 +165,10 @@ fn put_lines(out: &mut [u8], number: u64, lines: [Line; MAX_EVENTS], n: usize) -
     while i < n {
         let line = lines[i];
         let event = line.event;
-        k = put_line(out, k, number, parts_of(event));
+        k = put_line(out, k, number, words::parts_of(event));
         i += 1;
     }
     k
-}
-
-// A word: its letters, with spaces after them, and how many they are.
-struct Word([u8; MAX_LETTERS], usize);
-
-const OPEN: Word = Word(*b"open   ", 4);
-
-const ORDER: Word = Word(*b"order  ", 5);
-
-const SCREEN: Word = Word(*b"screen ", 6);
-
-const CLEAR: Word = Word(*b"clear  ", 5);
-
-const FAILED: Word = Word(*b"failed ", 6);
-
-const FILL: Word = Word(*b"fill   ", 4);
-
-const ROFR: Word = Word(*b"rofr   ", 4);
-
-const CLOSE: Word = Word(*b"close  ", 5);
-
-const SETTLE: Word = Word(*b"settle ", 6);
-
-const SKIP: Word = Word(*b"skip   ", 4);
-
-const PRINT: Word = Word(*b"print  ", 5);
-
-const PHASE: Word = Word(*b"phase  ", 5);
-
-const REFUSED: Word = Word(*b"refused", 7);
-
-const NONE: Word = Word(*b"none   ", 4);
-
-const END: Word = Word(*b"end    ", 3);
-
-// A line after its record's number: a word and the first so many of the figures.
-struct Parts {
-    word: Word,
-    count: usize,
-    nums: [u64; MAX_FIGURES],
-}
-
-// The word and the figures of an event's line.
-fn parts_of(e: Event) -> Parts
-    ensures { λ r. ⌜ Short r × ((number : ℕ) → partsLine number r ≡ eventLine number e) ⌝ }
-{
-    match e {
-        Event::Nothing => bare(NONE),
-        Event::OrderScreened { order, exclusion } => two(SCREEN, order as u64, exclusion as u64),
-        Event::Cleared {
-            price,
-            volume,
-            reserve,
-            reference,
-        } => four(CLEAR, price, volume, reserve, reference),
-        Event::SessionFailed(reason) => one(FAILED, reason as u64),
-        Event::FillAllocated {
-            fill,
-            buy,
-            sell,
-            qty,
-        } => four(FILL, fill as u64, buy as u64, sell as u64, qty),
-        Event::RofrExercised {
-            fill,
-            new,
-            qty,
-            price,
-        } => four(ROFR, fill as u64, new as u64, qty, price),
-        Event::RofrClosed(qty) => one(CLOSE, qty),
-        Event::FillSettled { fill, qty, price } => three(SETTLE, fill as u64, qty, price),
-        Event::FillSkipped { fill, qty, reason } => three(SKIP, fill as u64, qty, reason as u64),
-        Event::ClearingPrint(print) => print_parts(print),
-        Event::PhaseChanged { from, to } => two(PHASE, from as u64, to as u64),
-    }
-}
-
-// A line without a figure, with one, two, three or four.
-fn bare(word: Word) -> Parts
-    ensures { λ r. ⌜ r ≡ parts word [] ⌝ }
-{
-    Parts {
-        word,
-        count: 0,
-        nums: [0; MAX_FIGURES],
-    }
-}
-
-fn one(word: Word, a: u64) -> Parts
-    ensures { λ r. ⌜ r ≡ parts word (a ∷ []) ⌝ }
-{
-    Parts {
-        word,
-        count: 1,
-        nums: [a, 0, 0, 0, 0, 0],
-    }
-}
-
-fn two(word: Word, a: u64, b: u64) -> Parts
-    ensures { λ r. ⌜ r ≡ parts word (a ∷ b ∷ []) ⌝ }
-{
-    Parts {
-        word,
-        count: 2,
-        nums: [a, b, 0, 0, 0, 0],
-    }
-}
-
-fn three(word: Word, a: u64, b: u64, c: u64) -> Parts
-    ensures { λ r. ⌜ r ≡ parts word (a ∷ b ∷ c ∷ []) ⌝ }
-{
-    Parts {
-        word,
-        count: 3,
-        nums: [a, b, c, 0, 0, 0],
-    }
-}
-
-fn four(word: Word, a: u64, b: u64, c: u64, d: u64) -> Parts
-    ensures { λ r. ⌜ r ≡ parts word (a ∷ b ∷ c ∷ d ∷ []) ⌝ }
-{
-    Parts {
-        word,
-        count: 4,
-        nums: [a, b, c, d, 0, 0],
-    }
-}
-
-// A print's line.
-fn print_parts(p: Print) -> Parts
-    ensures { λ r. ⌜ Short r × ((number : ℕ) → partsLine number r ≡ eventLine number (Event.ClearingPrint p)) ⌝ }
-{
-    Parts {
-        word: PRINT,
-        count: 6,
-        nums: [
-            p.price,
-            p.volume,
-            p.n_investor_ids,
-            bit(p.forced_sale),
-            p.policy as u64,
-            bit(p.partial),
-        ],
-    }
-}
-
-// 1 where it is so, else 0.
-fn bit(b: bool) -> u64
-    ensures { λ r. ⌜ r ≡ only b 1 ⌝ }
-{
-    if b { 1 } else { 0 }
 }
 
 // A line: the record's number, a space, and the rest.
@@ -408,7 +258,11 @@ fn put_last(out: &mut [u8], accepted: bool, phase: u8, skipped: u32) -> usize
     ensures { λ r. ⌜ Puts (endLine accepted phase skipped) 0 r (now (out .entry)) (now (out .exit)) × (r ≤ maxRecord) ⌝ }
 {
     if accepted {
-        return put_rest(out, 0, two(END, phase as u64, ones_of(skipped)));
+        return put_rest(
+            out,
+            0,
+            words::two(words::END, phase as u64, ones_of(skipped)),
+        );
     }
     put_bytes(out, 0, b"end none\n")
 }

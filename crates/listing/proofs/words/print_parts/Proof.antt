@@ -1,10 +1,10 @@
--- `listing::print_parts` meets its contract: by what `bit` ensures of the two flags.
+-- `listing::words::print_parts` meets its contract: by what `bit` ensures of the two flags.
 -- Assumes nothing.
 use mathlib.Core.Path.{refl}
 use native.Mathlib.Omega.{arith}
 use borrow.Author.Needs.{needs}
-use Rattle.listing.proofs.print_parts.Statement.{statement}
-use Rattle.listing.proofs.print_parts.Tie as tie
+use Rattle.listing.proofs.words.print_parts.Statement.{statement}
+use Rattle.listing.proofs.words.print_parts.Tie as tie
 
 bit-requires : tie.Need-bit-requires
 bit-requires c κs = search needs

@@ -1,10 +1,10 @@
--- `listing::parts_of` meets its contract, event by event.
+-- `listing::words::parts_of` meets its contract, event by event.
 -- Assumes nothing.
 use mathlib.Core.Path.{refl}
 use native.Mathlib.Omega.{arith}
 use borrow.Author.Needs.{needs}
-use Rattle.listing.proofs.parts_of.Statement.{statement}
-use Rattle.listing.proofs.parts_of.Tie as tie
+use Rattle.listing.proofs.words.parts_of.Statement.{statement}
+use Rattle.listing.proofs.words.parts_of.Tie as tie
 
 enum-told : tie.Need-enum-told
 enum-told c = search needs
