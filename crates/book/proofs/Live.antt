@@ -11,7 +11,7 @@ use borrow.Author.Tests.{lt-ltb, le-ltb, ltb-true}
 use Rattle.laws.specs.Sums.{sumBelow, only, count, sumOver}
 use Rattle.laws.specs.Lists.{table, keep, Member}
 use Rattle.laws.proofs.Tests.{both}
-use Rattle.laws.proofs.Sums.{sum-same, only-none}
+use Rattle.laws.proofs.Sums.{sum-same, sum-cut, only-none}
 use Rattle.laws.proofs.Lists.{length-table, getD-table, getD-map}
 use Rattle.laws.proofs.Kept.{keep-cut, length-keep, sum-kept, kept-members}
 use Rattle.credit_math.specs.Limits.{maxOrders}
@@ -83,6 +83,11 @@ module _ (orders : List Order) (n : ℕ) where
 
   pub live-count : count (liveAt orders n) maxOrders ≡ length (liveOrders orders n)
   live-count = rw live-orders-are (sym (length-keep (liveAt orders n) (λ i. i) maxOrders))
+
+  -- no place past the count is live
+  pub live-held : count (liveAt orders n) maxOrders ≡ count (liveAt orders n) (min n maxOrders)
+  unfolding count
+  live-held = sum-cut (λ i. only (liveAt orders n i) 1) (min n maxOrders) maxOrders (omega arith) (λ i h k. rw (dead-past i (omega arith)))
 
   pub live-members : (i : ℕ) → Member i (liveOrders orders n) ↔ ((i < maxOrders) × (liveAt orders n i ≡ true))
   live-members i = rw live-orders-are (kept-members (liveAt orders n) maxOrders i)

@@ -77,14 +77,22 @@ fn no_lots(refusal: u8, failed: u8) -> Outcome
 fn live_count(orders: [Order; MAX_ORDERS], n: usize) -> u64
     ensures { λ r. ⌜ r ≡ count (liveAt orders n) 16 ⌝ }
 {
+    let m = at_most_all(n);
     let mut live = 0;
     let mut i = 0;
-    while i < MAX_ORDERS {
+    while i < m {
         let o = orders[i];
         live += credit_math::allocation::unit(live_at(o, i, n));
         i += 1;
     }
     live
+}
+
+// A count above the limit is read as the limit.
+fn at_most_all(n: usize) -> usize
+    ensures { λ r. ⌜ r ≡ min n 16 ⌝ }
+{
+    if n < MAX_ORDERS { n } else { MAX_ORDERS }
 }
 
 fn live_at(o: Order, i: usize, n: usize) -> bool

@@ -1,19 +1,23 @@
 -- `book::clear::live_count` meets its contract. The loop's invariant: the count is that of the live places passed.
 -- Assumes nothing.
+use mathlib.Core.Path.{sym, _∙_}
 use Prim.Native.Nat.{_-_, _≤_}
 use native.Mathlib.Omega.{arith}
 use borrow.Author.Needs.{needs}
 use Rattle.laws.proofs.Sums.{only-one, Counting, counting, counting-more, counted}
-use Rattle.credit_math.specs.Limits.{maxOrders}
 use Rattle.book.specs.Columns.{liveAt}
+use Rattle.book.proofs.Live.{live-held}
 use Rattle.book.proofs.clear.live_count.Statement.{statement}
 use Rattle.book.proofs.clear.live_count.Tie as tie
 
 abbrev Inv-loop : tie.InvT-loop
-Inv-loop n orders live₀ i₀ live i = (i ≤ maxOrders) × Counting (liveAt orders n) i live
+Inv-loop n orders m live₀ i₀ live i = (i ≤ m) × Counting (liveAt orders n) i live
 
 abbrev μ-loop : tie.MeasureT-loop
-μ-loop n orders live₀ i₀ live i = maxOrders - i
+μ-loop n orders m live₀ i₀ live i = m - i
+
+at-most-all-requires : tie.Need-at-most-all-requires Inv-loop μ-loop
+at-most-all-requires c κs = search needs
 
 loop-holds : tie.Need-loop-holds Inv-loop μ-loop
 loop-holds c = (search needs, counting)
@@ -44,7 +48,10 @@ unfolding liveAt
 loop-again c = (omega arith, counting-more _ _ (c .before .before .before .before .loop .inv .1) (c .before .live-at .ensures) (c .unit .ensures))
 
 returns : tie.Need-returns Inv-loop μ-loop
-returns c = counted (c .before .loop .inv .1) (c .before .loop .inv .0) (c .loop-test .left)
+returns c =
+    let l = c .before .loop .inv in
+    let all = c .before .before .at-most-all .ensures in
+    rw all at (counted (l .1) (l .0) (c .loop-test .left)) ∙ sym (live-held _ _)
 
 pub live-count-spec : {M : Type 1} → statement M
 live-count-spec =
@@ -52,6 +59,7 @@ live-count-spec =
     (tie.spec
     Inv-loop
     μ-loop
+    at-most-all-requires
     loop-holds
     mul-o
     array-copy-out-o
