@@ -1,5 +1,6 @@
 // Little-endian fields of a record. Bytes past the end are read as 0, so nothing is asked of the caller.
 ghost use mathlib.Core.Path.{_≡_};
+ghost use mathlib.Core.Bool.{true};
 ghost use Prim.Native.Nat.{ℕ, _+_, _*_, _^_, _<_, _≤_};
 ghost use lib.ListN.{length, getD};
 ghost use Rattle.session_file.specs.Bytes.{word, bytesAt, signed, timeAt, flagAt};
@@ -16,22 +17,63 @@ pub fn u8_at(rec: &[u8], at: usize) -> u8
 pub fn u16_at(rec: &[u8], at: usize) -> u16
     ensures { λ r. ⌜ r ≡ word 2 (now (rec .entry)) at ⌝ }
 {
+    if holds(rec, at, 2) {
+        return pair(rec, at) as u16;
+    }
     word_at(rec, at, 2) as u16
 }
 
 pub fn u32_at(rec: &[u8], at: usize) -> u32
     ensures { λ r. ⌜ r ≡ word 4 (now (rec .entry)) at ⌝ }
 {
+    if holds(rec, at, 4) {
+        return quad(rec, at) as u32;
+    }
     word_at(rec, at, 4) as u32
 }
 
 pub fn u64_at(rec: &[u8], at: usize) -> u64
     ensures { λ r. ⌜ r ≡ word 8 (now (rec .entry)) at ⌝ }
 {
+    if holds(rec, at, 8) {
+        let low = quad(rec, at);
+        let high = quad(rec, at + 4);
+        return low + 4294967296 * high;
+    }
     word_at(rec, at, 8)
 }
 
-// The number of k bytes, the lowest first.
+// Whether k bytes stand at a place.
+fn holds(rec: &[u8], at: usize, k: usize) -> bool
+    ensures { λ r. ⌜ (r ≡ true → at + k ≤ length (now (rec .entry))) ⌝ }
+{
+    if at <= rec.len() {
+        return k <= rec.len() - at;
+    }
+    false
+}
+
+// Two bytes that stand there.
+fn pair(rec: &[u8], at: usize) -> u64
+    requires { ⌜ at + 2 ≤ length (now rec) ⌝ }
+    ensures { λ r. ⌜ (r ≡ word 2 (now (rec .entry)) at) × (r < 65536) ⌝ }
+{
+    let low = wide(rec[at]);
+    let high = wide(rec[at + 1]);
+    low + 256 * high
+}
+
+// Four.
+fn quad(rec: &[u8], at: usize) -> u64
+    requires { ⌜ at + 4 ≤ length (now rec) ⌝ }
+    ensures { λ r. ⌜ (r ≡ word 4 (now (rec .entry)) at) × (r < 4294967296) ⌝ }
+{
+    let low = pair(rec, at);
+    let high = pair(rec, at + 2);
+    low + 65536 * high
+}
+
+// The number of k bytes, the lowest first, where some may be past the end.
 fn word_at(rec: &[u8], at: usize, k: usize) -> u64
     requires { ⌜ k ≤ 8 ⌝ }
     ensures { λ r. ⌜ (r ≡ word k (now (rec .entry)) at) × (r < 256 ^ k) ⌝ }
