@@ -29,6 +29,13 @@ clearRefusal s now =
     then unless (every (λ i. not (orderAt s i .revealed) || orderAt s i .screened) (s .«order_count»)) 16
     then outcome s .refusal
 
+-- all of that but the last, 17, which the outcome has
+abbrev pub clearChecks : Session → (now : ℤ) → ℕ
+clearChecks s now =
+    unless (inWindow s now) 11
+    then unless (admits (s .phase) 1) 10
+    then unless (every (λ i. not (orderAt s i .revealed) || orderAt s i .screened) (s .«order_count»)) 16
+
 -- an order with its lot, none of it paired yet
 abbrev pub withLot : Order → ℕ → Order
 withLot o a =

@@ -11,7 +11,7 @@ ghost use Rattle.events.specs.Events.{packed};
 ghost use Rattle.auction_engine.specs.Call as call;
 ghost use Rattle.auction_engine.specs.Call.{limitsRefusal, fieldsRefusal, inWindow, admits};
 ghost use Rattle.auction_engine.specs.Session.{orderAt};
-ghost use Rattle.auction_engine.specs.Clearing.{outcome, withLot, withLots, clearedBy, clearLines};
+ghost use Rattle.auction_engine.specs.Clearing.{clearChecks, outcome, withLot, withLots, clearedBy, clearLines};
 ghost use Rattle.auction_engine.specs.Engine.{answer};
 use crate::Answer;
 use crate::Cleared;
@@ -49,11 +49,8 @@ impl Session {
     }
 
     // All checks but the last, 17, which the outcome has.
-    fn clear_refusal(self, now: i64) -> u8
-        ensures { λ r. ⌜ r ≡ limitsRefusal self then fieldsRefusal self
-            then unless (inWindow self now) 11
-            then unless (admits (self .phase) 1) 10
-            then unless (every (λ i. not (orderAt self i .revealed) || orderAt self i .screened) (self .«order_count»)) 16 ⌝ }
+    pub fn clear_refusal(self, now: i64) -> u8
+        ensures { λ r. ⌜ r ≡ limitsRefusal self then fieldsRefusal self then clearChecks self now ⌝ }
     {
         let bad = self.checked();
         if bad != 0 {

@@ -28,12 +28,7 @@ impl Session {
     pub fn allocate(self, now: i64, max_fills: u8) -> Answer
         ensures { λ r. ⌜ r ≡ answer self (call.allocate now «max_fills») ⌝ }
     {
-        let bad = self.checked();
-        let phase = crate::unless(
-            crate::admits(self.phase, crate::ALLOCATE),
-            book::error::WRONG_PHASE,
-        );
-        let refusal = crate::first_of(bad, phase);
+        let refusal = self.allocate_refusal();
         if refusal != 0 {
             return Answer::refused(self, refusal);
         }
@@ -42,6 +37,19 @@ impl Session {
             return Answer::refused(self, book::error::BOOK_FULL);
         }
         k.matched()
+    }
+
+    // All checks but the last, 18, which the fills have.
+    pub fn allocate_refusal(self) -> u8
+        ensures { λ r. ⌜ r ≡ (limitsRefusal self then fieldsRefusal self) then unless (admits (self .phase) 2) 10 ⌝ }
+    {
+        let bad = self.checked();
+        let phase = crate::unless(
+            crate::admits(self.phase, crate::ALLOCATE),
+            book::error::WRONG_PHASE,
+        );
+        let refusal = crate::first_of(bad, phase);
+        refusal
     }
 
     // What the two orders can trade: the smaller of what they have left.

@@ -45,7 +45,7 @@ impl Session {
         }
     }
 
-    fn exercise_refusal(self, now: i64, issuer: [u8; 32], fill: u32, qty: u64) -> u8
+    pub fn exercise_refusal(self, now: i64, issuer: [u8; 32], fill: u32, qty: u64) -> u8
         ensures { λ r. ⌜ r ≡ refusal self (call.exercise now issuer fill qty) ⌝ }
     {
         let bad = self.checked();
@@ -81,7 +81,8 @@ impl Session {
         if self.fill_count <= at {
             return book::error::NO_FILL;
         }
-        let f = self.fills[at];
+        let fills = self.fills;
+        let f = fills[at];
         let bought = unless(!f.rofr, book::error::NO_FILL);
         let settled = unless(!f.settled, book::error::NO_FILL);
         let above = unless(qty <= f.qty, book::error::ROFR_EXCEEDS_FILL);
@@ -92,7 +93,8 @@ impl Session {
         requires { ⌜ (at < maxFills) × (self .«fill_count» < maxFills) × (qty ≤ fillAt self at .qty) ⌝ }
         ensures { λ r. ⌜ r ≡ exerciseEffect self issuer at qty ⌝ }
     {
-        let f = self.fills[at];
+        let mut fills = self.fills;
+        let f = fills[at];
         let seller = f.seller;
         let mut less = f;
         less.qty = f.qty - qty;
@@ -104,9 +106,10 @@ impl Session {
             rofr: true,
             settled: true,
         };
+        fills[at] = less;
+        fills[new] = purchase;
         let mut next = self;
-        next.fills[at] = less;
-        next.fills[new] = purchase;
+        next.fills = fills;
         next.fill_count = new + 1;
         next.rofr_qty = saturating_add(self.rofr_qty, qty);
         next
@@ -149,7 +152,7 @@ impl Session {
         }
     }
 
-    fn close_refusal(self, now: i64, caller: [u8; 32]) -> u8
+    pub fn close_refusal(self, now: i64, caller: [u8; 32]) -> u8
         ensures { λ r. ⌜ r ≡ refusal self (call.close now caller) ⌝ }
     {
         let bad = self.checked();

@@ -50,7 +50,7 @@ impl Session {
         }
     }
 
-    fn screen_refusal(
+    pub fn screen_refusal(
         self,
         now: i64,
         order: u8,
@@ -86,7 +86,8 @@ impl Session {
         if self.order_count <= i {
             return book::error::NO_ORDER;
         }
-        let o = self.orders[i];
+        let orders = self.orders;
+        let o = orders[i];
         let other = unless(o.side == side, book::error::WRONG_SIDE);
         let hidden = unless(o.revealed, book::error::NOT_REVEALED);
         let again = unless(!o.screened, book::error::ALREADY_SCREENED);
@@ -119,10 +120,12 @@ impl Session {
         ensures { λ r. ⌜ r ≡ remake self (self .cleared) 7 (self .«rofr_qty») (self .«fills_settled») (self .«skipped_fills»)
             (set (self .orders) i (screenedAs (orderAt self i) exclusion «has_id» id)) (self .fills) (self .«fill_count») ⌝ }
     {
-        let o = self.orders[i];
+        let mut orders = self.orders;
+        let o = orders[i];
         let screened = as_screened(o, exclusion, has_id, id);
+        orders[i] = screened;
         let mut next = self;
-        next.orders[i] = screened;
+        next.orders = orders;
         next.phase = crate::CLEARING;
         next
     }

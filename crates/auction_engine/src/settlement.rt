@@ -50,7 +50,7 @@ impl Session {
         }
     }
 
-    fn settle_refusal(self, fill: u32) -> u8
+    pub fn settle_refusal(self, fill: u32) -> u8
         ensures { λ r. ⌜ r ≡ refusal self (call.settle fill) ⌝ }
     {
         let bad = self.checked();
@@ -72,7 +72,8 @@ impl Session {
         if self.fill_count <= at {
             return book::error::NO_FILL;
         }
-        let f = self.fills[at];
+        let fills = self.fills;
+        let f = fills[at];
         unless(!f.settled, book::error::FILL_SETTLED)
     }
 
@@ -81,10 +82,12 @@ impl Session {
         ensures { λ r. ⌜ r ≡ remake self (self .cleared) (self .phase) (self .«rofr_qty») (self .«fills_settled») (self .«skipped_fills») (self .orders)
             (set (self .fills) at (asSettled (fillAt self at))) (self .«fill_count») ⌝ }
     {
-        let mut f = self.fills[at];
+        let mut fills = self.fills;
+        let mut f = fills[at];
         f.settled = true;
+        fills[at] = f;
         let mut next = self;
-        next.fills[at] = f;
+        next.fills = fills;
         next
     }
 
@@ -94,7 +97,8 @@ impl Session {
         ensures { λ r. ⌜ r ≡ packed (settleEvents self fill) ⌝ }
     {
         let at = fill as usize;
-        let f = self.fills[at];
+        let fills = self.fills;
+        let f = fills[at];
         let none = Events::none();
         if f.qty == 0 {
             return none;
@@ -115,7 +119,8 @@ impl Session {
             return Answer::refused(self, refusal);
         }
         let at = fill as usize;
-        let f = self.fills[at];
+        let fills = self.fills;
+        let f = fills[at];
         let none = Events::none();
         let events = none.push(Event::FillSkipped {
             fill,
@@ -131,7 +136,7 @@ impl Session {
         }
     }
 
-    fn skip_refusal(self, now: i64, fill: u32, reason: u8) -> u8
+    pub fn skip_refusal(self, now: i64, fill: u32, reason: u8) -> u8
         ensures { λ r. ⌜ r ≡ refusal self (call.skip now fill reason) ⌝ }
     {
         let bad = self.checked();
@@ -170,7 +175,7 @@ impl Session {
         }
     }
 
-    fn finish_refusal(self, now: i64) -> u8
+    pub fn finish_refusal(self, now: i64) -> u8
         ensures { λ r. ⌜ r ≡ refusal self (call.finish now) ⌝ }
     {
         let bad = self.checked();
@@ -242,7 +247,7 @@ impl Session {
         }
     }
 
-    fn expire_refusal(self, now: i64) -> u8
+    pub fn expire_refusal(self, now: i64) -> u8
         ensures { λ r. ⌜ r ≡ refusal self (call.expire now) ⌝ }
     {
         let bad = self.checked();

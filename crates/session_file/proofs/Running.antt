@@ -1,12 +1,15 @@
 -- The loop over a file's records: what is written and what is left to list make up the listing.
 -- Assumes nothing.
 use mathlib.Core.Path.{_≡_, refl, sym, ap, _∙_}
-use mathlib.Core.Logic.{_≢_}
+use mathlib.Core.Logic.{_≢_, ⊎-elim}
+use mathlib.Core.Bool.{true, false, cond}
 use mathlib.Core.List.{List, [], _++_, append-assoc}
 use Prim.Native.Nat.{ℕ, zero, suc, _+_, _-_, _<_, _≤_}
 use native.Mathlib.Omega.{arith}
+use lib.Dec.{eqb}
 use lib.ListN.{length, take, drop, length-append, length-drop}
-use borrow.Author.Tests.{lt-ltb, le-ltb, le-leb, lt-leb}
+use borrow.Author.Tests.{lt-ltb, le-ltb, le-leb, lt-leb, eqb-true, eqb-false}
+use Rattle.laws.proofs.Tests.{tested}
 use Rattle.listing.specs.declared.Written.{Written}
 use Rattle.listing.specs.Lines.{recordLines, said}
 use Rattle.listing.specs.Writing.{written, Writes, Puts}
@@ -132,3 +135,13 @@ module _ {s e : List ℕ} {r : Runner} {number at : ℕ} {e′ : List ℕ} (v : 
   running-over {w} h d z =
       let n = ap length (ends v h) in
       ran-long s e (lent at k e′ y) w (longer d z .1) (omega (arith, text-long (lastLine r) d z, simp length-append at n)) running-length
+
+  -- by the answer
+  pub running-last : {w : Written} → length s ≤ r .at → Writes (lastLine r) w (take k (drop at e′)) y
+      → (at + w .len ≤ length e) × Ran s (cond (eqb (w .refusal) 0) (record { refusal = 0; len = at + w .len }) w) e (lent at k e′ y)
+  running-last {w} h d =
+      ⊎-elim (λ (t : eqb (w .refusal) 0 ≡ true). rw t (running-end h d (eqb-true (w .refusal) 0 t)))
+      (λ (t : eqb (w .refusal) 0 ≡ false).
+      let z = eqb-false (w .refusal) 0 t in
+      rw t (omega (arith, v .room, ap (λ (x : Written). x .len) (longer d z .1)), running-over h d z))
+      (tested (eqb (w .refusal) 0))

@@ -2,26 +2,35 @@
 -- Assumes nothing.
 use mathlib.Core.Path.{_≡_, refl, sym, _∙_}
 use mathlib.Core.Logic.{_≢_}
+use mathlib.Core.Bool.{Bool, true, false, cond, false≢true, _&&_}
 use mathlib.Core.List.{List}
 use Prim.Native.Nat.{ℕ, _+_, _<_, _≤_}
 use native.Mathlib.Omega.{arith}
 use lib.ListN.{length, drop, length-drop}
-use borrow.Author.Tests.{eq-eqb, ne-eqb}
+use lib.Dec.{eqb}
+use borrow.Author.Tests.{eq-eqb, ne-eqb, le-leb, eqb-true}
+use Rattle.laws.proofs.Tests.{both}
 use Rattle.book.specs.declared.Params.{Params}
 use Rattle.book.specs.declared.Given.{Given}
 use Rattle.book.specs.declared.Row.{Row}
 use Rattle.auction_engine.specs.declared.CallRecord.{CallRecord}
-use Rattle.auction_engine.specs.Engine.{callOf}
+use Rattle.auction_engine.specs.declared.Session.{Session}
+use Rattle.auction_engine.specs.Call.{argumentsRefusal}
+use Rattle.auction_engine.specs.Engine.{refusedBy, answer, callOf, applied}
+use Rattle.listing.specs.declared.Record.{Record}
 use Rattle.session_file.specs.declared.records.Mark.{Mark}
 use Rattle.session_file.specs.declared.records.Mark.the-variants.{Unknown, SH, OR, SC, CL, AL, RX, RC, ST, SK, FN, EX}
 use Rattle.session_file.specs.declared.runner.Runner.{Runner}
+use Rattle.session_file.specs.declared.runner.Spot.{Spot}
 use Rattle.session_file.specs.declared.runner.Turn.{Turn}
+use Rattle.session_file.specs.declared.runner.Spot.{Spot}
+use Rattle.session_file.specs.declared.runner.CallAt.{CallAt}
 use Rattle.session_file.specs.Records.{Read, refused, header, order, call, kindOf, widthOf, paramsOf, givenOf, rowOf, fieldsOf, markOf, markAt, recordRefusal, readOf}
-use Rattle.session_file.specs.Runner.{readRefusal, wentOn, stopped, took, turnAt}
+use Rattle.session_file.specs.Runner.{saying, saidOf, readRefusal, wentOn, stopped, took, turnAt, callRecordAt, callAt}
 use Rattle.session_file.specs.Bytes.{word}
 use Rattle.session_file.specs.Calls.{callRead}
 use Rattle.session_file.proofs.Accepted.{Passed, passed}
-use Rattle.session_file.proofs.Sayings.{call-fields}
+use Rattle.session_file.proofs.Sayings.{read-known, call-fields}
 
 -- ---- what was read stops the file with its number, or is gone on with
 module _ (r : Runner) (end next : ℕ) (x : Read) (n : ℕ) {t : Turn} (is : n ≡ readRefusal (r .session) x) where
@@ -32,6 +41,23 @@ module _ (r : Runner) (end next : ℕ) (x : Read) (n : ℕ) {t : Turn} (is : n �
   pub took-on : n ≡ 0 → t ≡ wentOn r next x → t ≡ took r end next x
   unfolding took
   took-on z goes = rw (← is, eq-eqb n 0 z) goes
+
+-- a call record of a known kind is answered as its call
+applied-known : (s : Session) (c : CallRecord) → c .kind ≤ 8 → applied s c ≡ answer s (callOf c)
+unfolding applied
+applied-known s c h = rw (le-leb (c .kind) 8 h)
+
+-- a call refused by a number leaves the session, and its number is said
+pub turn-refused : (s : Session) (c : CallRecord) (n : ℕ) (p : Spot) {t : Turn} → n ≢ 0 → refusedBy s n ≡ applied s c
+    → _≡_ {A = Turn} (record { runner = record { stage = p .stage; session = applied s c .session; at = p .at }; said = saidOf (applied s c) }) t
+    → _≡_ {A = Turn} (record { runner = record { stage = p .stage; session = s; at = p .at }; said = saying 2 n }) t
+turn-refused s c n p z e h = rw (← e, ne-eqb n 0 z) at h
+
+-- a turn by its parts
+pub turn-same : {s s′ : Session} {p p′ : Spot} {said said′ : Record} {t : Turn} → s ≡ s′ → p ≡ p′ → said ≡ said′
+    → _≡_ {A = Turn} (record { runner = record { stage = p′ .stage; session = s′; at = p′ .at }; said = said′ }) t
+    → _≡_ {A = Turn} (record { runner = record { stage = p .stage; session = s; at = p .at }; said = said }) t
+turn-same e f g is = rw (e, f, g) is
 
 -- ---- the fields, by the kind of the record
 pub header-fields : (m : Mark) (rec : List ℕ) → kindOf m ≡ 1 → header (paramsOf rec) (givenOf rec) ≡ fieldsOf m rec
@@ -120,3 +146,52 @@ module _ (s : List ℕ) (r : Runner) {rec : List ℕ} (rest : rec ≡ drop (r .a
       turn-call no-header no-order {c} is-call is-turn =
           let e = call-kind m (rw mark-is at (accepted .known)) (λ h. no-header (kind ∙ h)) (λ h. no-order (kind ∙ h)) in
           turn-took (call (callOf c)) (rw is-call (call-fields m rec e)) is-turn
+
+    -- a call whose arguments are right: what the engine answers
+    pub turn-applied : kindOf m ≡ 3 → {c : CallRecord} → c ≡ callRead (fieldsOf m rec) → argumentsRefusal (callOf c) ≡ 0
+        → _≡_ {A = Turn} (record { runner = record { stage = 2; session = applied (r .session) c .session; at = r .at + width }; said = saidOf (applied (r .session) c) }) (turnAt s r)
+    unfolding readRefusal
+    turn-applied e {c} is-call right =
+        let known : c .kind ≤ 8 = rw is-call (read-known (fieldsOf m rec)) in
+        turn-took (call (callOf c)) (rw is-call (call-fields m rec e))
+        (took-on r (length s) (r .at + width) (call (callOf c)) (argumentsRefusal (callOf c)) refl right (rw (applied-known (r .session) c known)))
+
+-- ---- the call at a place, refused or read: rec is what is left of the file
+module _ (s : List ℕ) (p : Spot) {rec : List ℕ} (rest : rec ≡ drop (p .at) s) {n : ℕ} (is : n ≡ recordRefusal rec (p .stage)) where
+  pub call-none : n ≢ 0 → {c : CallRecord} → c ≡ callRead (fieldsOf Unknown rec) → _≡_ {A = CallAt} (record { stands = false; after = p; call = c }) (callAt s p)
+  unfolding callAt fieldsOf
+  call-none z e = rw (← rest, ← is, ne-eqb n 0 z, e)
+
+  pub call-some : n ≡ 0 → {u : ℕ} → u ≡ word 2 rec 0 → {m : Mark} → m ≡ markOf u → {width : ℕ} → width ≡ widthOf m → {k : ℕ} → k ≡ kindOf m
+      → {c : CallRecord} → c ≡ callRead (fieldsOf m rec) → {bad : ℕ} → bad ≡ argumentsRefusal (callOf c) → {b : Bool} → b ≡ (eqb k 3 && eqb bad 0)
+      → _≡_ {A = CallAt} (record { stands = b; after = record { stage = 2; at = p .at + width }; call = c }) (callAt s p)
+  unfolding callAt
+  call-some z number mark wide kind reads args is-both = rw (← rest, ← is, eq-eqb n 0 z, is-both, kind, args, reads, wide, mark, number)
+
+-- a call that stands is what the engine answers
+call-turn : (s : List ℕ) (p : Spot) (x : Session) → callAt s p .stands ≡ true
+    → _≡_ {A = Turn}
+    (record { runner = record { stage = callAt s p .after .stage; session = applied x (callAt s p .call) .session; at = callAt s p .after .at }; said = saidOf (applied x (callAt s p .call)) })
+    (turnAt s (record { stage = p .stage; session = x; at = p .at }))
+unfolding callAt
+call-turn s p x = go (eqb (recordRefusal rec (p .stage)) 0) refl
+  where
+    rec : List ℕ
+    rec = drop (p .at) s
+
+    found : Bool → CallAt
+    found t = cond t (callRecordAt rec p) (record { stands = false; after = p; call = callRead (refused 2) })
+
+    go : (t : Bool) → eqb (recordRefusal rec (p .stage)) 0 ≡ t → found t .stands ≡ true
+        → _≡_ {A = Turn}
+        (record { runner = record { stage = found t .after .stage; session = applied x (found t .call) .session; at = found t .after .at }; said = saidOf (applied x (found t .call)) })
+        (turnAt s (record { stage = p .stage; session = x; at = p .at }))
+    go true e h =
+        let b = both _ _ h in
+        turn-applied s (record { stage = p .stage; session = x; at = p .at }) refl refl (eqb-true _ 0 e) refl refl refl (eqb-true _ 3 (b .0)) refl (eqb-true _ 0 (b .1))
+    go false e h = absurd (false≢true h)
+
+pub call-reads : (s : List ℕ) (p : Spot) {c : CallAt} → c ≡ callAt s p → c .stands ≡ true → (x : Session)
+    → _≡_ {A = Turn} (record { runner = record { stage = c .after .stage; session = applied x (c .call) .session; at = c .after .at }; said = saidOf (applied x (c .call)) })
+    (turnAt s (record { stage = p .stage; session = x; at = p .at }))
+call-reads s p is h x = rw is (call-turn s p x (rw is at h))

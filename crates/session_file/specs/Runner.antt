@@ -1,5 +1,5 @@
 -- A file's records in turn.
-use mathlib.Core.Bool.{Bool, true, false, cond}
+use mathlib.Core.Bool.{Bool, true, false, cond, _&&_}
 use mathlib.Core.List.{List, []}
 use Prim.Native.Nat.{ℕ, _+_}
 use lib.Dec.{eqb}
@@ -12,11 +12,14 @@ use Rattle.auction_engine.specs.declared.Session.{Session}
 use Rattle.auction_engine.specs.declared.Answer.{Answer}
 use Rattle.auction_engine.specs.Session.{fresh}
 use Rattle.auction_engine.specs.Call.{argumentsRefusal}
-use Rattle.auction_engine.specs.Engine.{answer}
+use Rattle.auction_engine.specs.Engine.{answer, callOf}
 use Rattle.auction_engine.specs.Opening.{headerRefusal, orderRefusal, withOrder}
 use Rattle.session_file.specs.declared.runner.Runner.{Runner}
 use Rattle.session_file.specs.declared.runner.Turn.{Turn}
-use Rattle.session_file.specs.Records.{Read, refused, header, order, call, widthOf, markAt, readOf}
+use Rattle.session_file.specs.declared.runner.Spot.{Spot}
+use Rattle.session_file.specs.declared.runner.CallAt.{CallAt}
+use Rattle.session_file.specs.Records.{Read, refused, header, order, call, kindOf, widthOf, fieldsOf, markAt, recordRefusal, readOf}
+use Rattle.session_file.specs.Calls.{callRead}
 
 -- 'A 4 in the body' of a call ends the file too: its arguments; those of the engine's own row do not
 unfoldable pub readRefusal : Session → Read → ℕ
@@ -84,3 +87,19 @@ took r end next x = cond (eqb (readRefusal (r .session) x) 0) (wentOn r next x) 
 -- the turn of the record at the runner's place: the runner after it, and what is said of it
 unfoldable pub turnAt : List ℕ → Runner → Turn
 turnAt s r = took r (length s) (r .at + widthOf (markAt (drop (r .at) s))) (readAt s r)
+
+-- the call of an accepted record that lets the file go on, and where it goes on
+abbrev pub callRecordAt : List ℕ → Spot → CallAt
+callRecordAt rec p =
+    record {
+      stands = eqb (kindOf (markAt rec)) 3 && eqb (argumentsRefusal (callOf (callRead (fieldsOf (markAt rec) rec)))) 0;
+      after = record { stage = 2; at = p .at + widthOf (markAt rec) };
+      call = callRead (fieldsOf (markAt rec) rec);
+    }
+
+-- the call at a place, if one stands there; else the blank one
+unfoldable pub callAt : List ℕ → Spot → CallAt
+callAt s p =
+    cond (eqb (recordRefusal (drop (p .at) s) (p .stage)) 0)
+    (callRecordAt (drop (p .at) s) p)
+    (record { stands = false; after = p; call = callRead (refused 2) })

@@ -1,12 +1,16 @@
 // Session files: read record by record, run, and listed.
 ghost use mathlib.Core.Path.{_≡_};
-ghost use Prim.Native.Nat.{ℕ, _+_, _<_, _≤_};
+ghost use mathlib.Core.Bool.{cond, not};
+ghost use Prim.Native.Nat.{ℕ, _+_, _^_, _<_, _≤_};
+ghost use lib.Dec.{eqb};
 ghost use lib.ListN.{length, replicate};
 ghost use Rattle.listing.specs.Writing.{Writes};
-ghost use Rattle.session_file.specs.File.{maxInput, lastLine, listingFrom};
+ghost use Rattle.listing.specs.Lines.{endLine};
+ghost use Rattle.session_file.specs.File.{maxInput, listingFrom};
 ghost use Rattle.session_file.specs.Runner.{start};
 ghost use Rattle.session_file.specs.Entry.{Listed, Entered, Ran};
-use crate::runner::Runner;
+use crate::runner::Spot;
+use auction_engine::Session;
 use listing::Written;
 
 pub mod bytes;
@@ -56,35 +60,57 @@ fn run_file(input: &[u8], out: &mut [u8]) -> Written
     requires { ⌜ length (now input) ≤ maxInput ⌝ }
     ensures { λ r. ⌜ Ran (now (input .entry)) r (now (out .entry)) (now (out .exit)) ⌝ }
 {
-    let mut r = runner::begin();
+    let begun = runner::begin();
+    let mut session = begun.session;
+    let mut spot = Spot { stage: 0, at: 0 };
     let mut number: u64 = 0;
     let mut at = 0;
-    while r.at < input.len() {
-        let t = runner::next_turn(r, input);
-        let said = t.said;
+    while spot.at < input.len() {
+        let c = runner::call_at(input, spot);
+        let said = if c.stands {
+            let call = c.call;
+            let early = session.early_refusal(call);
+            spot = c.after;
+            if early != 0 {
+                runner::refused(early)
+            } else {
+                let a = session.apply(call);
+                session = a.session;
+                runner::answered(a)
+            }
+        } else {
+            let t = runner::turn_at(input, spot, session);
+            session = t.session;
+            spot = t.after;
+            t.said
+        };
         let written = listing::put_record(&mut out[at..], number, said);
         if written.refusal != 0 {
             return written;
         }
         at = at + written.len;
         number = number + 1;
-        r = t.runner;
     }
-    let last = put_last(&mut out[at..], r);
+    let last = put_last(&mut out[at..], spot.stage, session);
+    ended(at, last)
+}
+
+fn put_last(out: &mut [u8], stage: u8, s: Session) -> Written
+    ensures { λ w. ⌜ Writes (endLine (not (eqb stage 0)) (s .phase) (s .«skipped_fills»)) w (now (out .entry)) (now (out .exit)) ⌝ }
+{
+    listing::put_end(out, stage != 0, s.phase, s.skipped_fills)
+}
+
+// The length of the whole listing, from where its last line stands and what its writer answered; or the refusal.
+fn ended(at: usize, last: Written) -> Written
+    requires { ⌜ at + last .len < 2 ^ 64 ⌝ }
+    ensures { λ r. ⌜ r ≡ cond (eqb (last .refusal) 0) (record { refusal = 0; len = at + last .len }) last ⌝ }
+{
     if last.refusal != 0 {
         return last;
     }
-    Written {
-        refusal: 0,
-        len: at + last.len,
-    }
-}
-
-fn put_last(out: &mut [u8], r: Runner) -> Written
-    ensures { λ w. ⌜ Writes (lastLine r) w (now (out .entry)) (now (out .exit)) ⌝ }
-{
-    let s = r.session;
-    listing::put_end(out, r.stage != 0, s.phase, s.skipped_fills)
+    let len = at + last.len;
+    Written { refusal: 0, len }
 }
 
 fn zero(out: &mut [u8])

@@ -5,7 +5,7 @@ ghost use Prim.Native.Nat.{ℕ, _+_, _<_, _≤_};
 ghost use lib.ListN.{length, drop};
 ghost use Rattle.auction_engine.specs.Engine.{callOf};
 ghost use Rattle.session_file.specs.Records.{header, order, call};
-ghost use Rattle.session_file.specs.Runner.{start, saying, saidOf, stopped, took, turnAt};
+ghost use Rattle.session_file.specs.Runner.{start, saying, saidOf, stopped, took, turnAt, callAt};
 use crate::bytes;
 use crate::calls;
 use crate::opening;
@@ -85,6 +85,79 @@ pub fn next_turn(r: Runner, input: &[u8]) -> Turn
         ),
         2 => order_turn(r, end, next, records::row_of(rec)),
         _ => call_turn(r, end, next, calls::read_call(m, rec)),
+    }
+}
+
+// A place of a file, and the stage there.
+pub struct Spot {
+    pub stage: u8,
+    pub at: usize,
+}
+
+// A call of a file, and where the file goes on.
+pub struct CallAt {
+    pub stands: bool,
+    pub after: Spot,
+    pub call: CallRecord,
+}
+
+// The call at a place, where one stands there that lets the file go on.
+pub fn call_at(input: &[u8], spot: Spot) -> CallAt
+    ensures { λ c. ⌜ c ≡ callAt (now (input .entry)) spot ⌝ }
+{
+    let at = spot.at;
+    let rec = rest_of(input, at);
+    let refusal = records::record_refusal(rec, spot.stage);
+    if refusal != 0 {
+        return CallAt {
+            stands: false,
+            after: spot,
+            call: calls::read_call(records::Mark::Unknown, rec),
+        };
+    }
+    let m = records::mark_of(bytes::u16_at(rec, 0));
+    let next = at + records::width_of(m);
+    let kind = records::kind_of(m);
+    let call = calls::read_call(m, rec);
+    let bad = auction_engine::arguments_refusal(call);
+    let stands = auction_engine::both(kind == 3, bad == 0);
+    let after = Spot { stage: 2, at: next };
+    CallAt {
+        stands,
+        after,
+        call,
+    }
+}
+
+// A record at a place: the session after it, where the file goes on, and what is said of it.
+pub struct TurnAt {
+    pub session: Session,
+    pub after: Spot,
+    pub said: Record,
+}
+
+// The next turn, from a place and a session.
+pub fn turn_at(input: &[u8], spot: Spot, session: Session) -> TurnAt
+    ensures { λ t. ⌜ record { runner = record { stage = t .after .stage; session = t .session; at = t .after .at }; said = t .said }
+        ≡ turnAt (now (input .entry)) (record { stage = spot .stage; session = session; at = spot .at }) ⌝ }
+{
+    let r = Runner {
+        stage: spot.stage,
+        session,
+        at: spot.at,
+    };
+    let t = next_turn(r, input);
+    let n = t.runner;
+    let said = t.said;
+    let session = n.session;
+    let after = Spot {
+        stage: n.stage,
+        at: n.at,
+    };
+    TurnAt {
+        session,
+        after,
+        said,
     }
 }
 
@@ -185,7 +258,7 @@ pub fn refused(refusal: u8) -> Record
 }
 
 // What a call answered.
-fn answered(a: Answer) -> Record
+pub fn answered(a: Answer) -> Record
     ensures { λ r. ⌜ r ≡ saidOf a ⌝ }
 {
     if a.refusal != 0 {

@@ -8,31 +8,19 @@ use Rattle.auction_engine.proofs.Allocating.{entry, entry-within, alloc
 use Rattle.auction_engine.proofs.Session.allocate.Statement.{statement}
 use Rattle.auction_engine.proofs.Session.allocate.Tie as tie
 
--- the number that the checks before the turns come to
-number : (c : tie.After-first-of) → c .first-of .result ≡ entry (c .before .before .before .before .args .self)
-number c = rw (c .first-of .ensures, c .before .unless .ensures, c .before .before .admits .ensures, c .before .before .before .checked .ensures)
+-- the number that the checks before the turns come to is 0
+passed : (c : tie.Else1) → entry (c .before .before .args .self) ≡ 0
+passed c = sym (c .before .allocate-refusal .ensures) ∙ c .if1 .left
 
-passed : (c : tie.Else1) → entry (c .before .before .before .before .before .args .self) ≡ 0
-passed c = sym (number (c .before)) ∙ c .if1 .left
-
-within : (c : tie.Else1) → Within (c .before .before .before .before .before .args .self)
-within c = entry-within (c .before .before .before .before .before .args .self) (passed c)
+within : (c : tie.Else1) → Within (c .before .before .args .self)
+within c = entry-within (c .before .before .args .self) (passed c)
 
 -- the turns begin at the session
-turns : (c : tie.After-turned) → let a = c .before .before .before .before .before .before .before .args in Turned (a .self) (a .max-fills) (c .turned .result)
+turns : (c : tie.After-turned) → let a = c .before .before .before .before .args in Turned (a .self) (a .max-fills) (c .turned .result)
 turns c = rw (c .before .begin .ensures) at (c .turned .ensures)
 
-checked-requires : tie.Need-checked-requires
-checked-requires c κs = search needs
-
-admits-requires : tie.Need-admits-requires
-admits-requires c κs = search needs
-
-unless-requires : tie.Need-unless-requires
-unless-requires c κs = search needs
-
-first-of-requires : tie.Need-first-of-requires
-first-of-requires c κs = search needs
+allocate-refusal-requires : tie.Need-allocate-refusal-requires
+allocate-refusal-requires c κs = search needs
 
 refused-requires : tie.Need-refused-requires
 refused-requires c κs = search needs
@@ -40,8 +28,8 @@ refused-requires c κs = search needs
 returns : tie.Need-returns
 returns c =
     let d = c .before .before in
-    let a = d .before .before .before .before .args in
-    allocate-refused (a .self) (a .now) (a .max-fills) (d .first-of .result) (c .refused .result) (number d) (c .before .if1 .taken) (c .refused .ensures)
+    let a = d .before .args in
+    allocate-refused (a .self) (a .now) (a .max-fills) (d .allocate-refusal .result) (c .refused .result) (d .allocate-refusal .ensures) (c .before .if1 .taken) (c .refused .ensures)
 
 begin-requires : tie.Need-begin-requires
 begin-requires c κs = search needs
@@ -56,31 +44,28 @@ returns-2 : tie.Need-returns-2
 returns-2 c =
     let d = c .before .before in
     let e = d .before .before in
-    let a = e .before .before .before .before .before .args in
+    let a = e .before .before .args in
     allocate-full (a .self) (a .now) (a .max-fills) (d .turned .result) (c .refused2 .result) (passed e) (turns d) (c .before .if2 .taken) (c .refused2 .ensures)
 
 matched-requires : tie.Need-matched-requires
 matched-requires c κs =
     let d = c .before in
     let e = d .before .before in
-    let a = e .before .before .before .before .before .args in
+    let a = e .before .before .args in
     turned-orders (a .self) (a .max-fills) (d .turned .result) (turns d) (c .if2 .left) (within e .orders)
 
 returns-3 : tie.Need-returns-3
 returns-3 c =
     let d = c .before .before in
     let e = d .before .before in
-    let a = e .before .before .before .before .before .args in
+    let a = e .before .before .args in
     c .matched .ensures ∙ allocate-matched (a .self) (a .max-fills) (d .turned .result) (turns d) (c .before .if2 .left) (a .now) (passed e)
 
 pub allocate-spec : {M : Type 1} → statement M
 allocate-spec =
     tie.close
     (tie.spec
-    checked-requires
-    admits-requires
-    unless-requires
-    first-of-requires
+    allocate-refusal-requires
     refused-requires
     returns
     begin-requires

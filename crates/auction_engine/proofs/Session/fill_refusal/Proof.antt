@@ -13,15 +13,15 @@ returns c = rw (le-ltb _ _ (c .if1 .taken))
 mul-f : tie.Need-mul-f
 mul-f c = search needs
 
-element-copy-out-f : tie.Need-element-copy-out-f
-element-copy-out-f c = search needs
+array-copy-out-f : tie.Need-array-copy-out-f
+array-copy-out-f c = search needs
 
 unless-requires : tie.Need-unless-requires
 unless-requires c κs = search needs
 
 returns-2 : tie.Need-returns-2
 unfolding _then_ unless
-returns-2 c = rw (c .unless .ensures, lt-ltb _ _ (c .before .before .before .if1 .left))
+returns-2 c = rw (c .unless .ensures, lt-ltb _ _ (c .before .before .before .before .if1 .left))
 
 pub fill-refusal-spec : {M : Type 1} → statement M
-fill-refusal-spec = tie.close (tie.spec returns mul-f element-copy-out-f unless-requires returns-2)
+fill-refusal-spec = tie.close (tie.spec returns mul-f array-copy-out-f unless-requires returns-2)

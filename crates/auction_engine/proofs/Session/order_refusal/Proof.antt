@@ -14,8 +14,8 @@ returns c = rw (le-ltb _ _ (c .if1 .taken))
 mul-o : tie.Need-mul-o
 mul-o c = search needs
 
-element-copy-out-o : tie.Need-element-copy-out-o
-element-copy-out-o c = search needs
+array-copy-out-o : tie.Need-array-copy-out-o
+array-copy-out-o c = search needs
 
 unless-requires : tie.Need-unless-requires
 unless-requires c κs = search needs
@@ -36,7 +36,7 @@ returns-2 : tie.Need-returns-2
 returns-2 c =
     let u = c .before .before in
     let v = u .before .before in
-    let d = v .before .before .before .before in
+    let d = v .before .before .before .before .before in
     rw (c .first-of2 .ensures, c .before .first-of .ensures, u .unless3 .ensures, v .unless2 .ensures, v .before .unless .ensures)
     (then-pass _ _ (unless-pass _ 12 (lt-ltb _ _ (d .if1 .left))))
 
@@ -46,7 +46,7 @@ order-refusal-spec =
     (tie.spec
     returns
     mul-o
-    element-copy-out-o
+    array-copy-out-o
     unless-requires
     unless-requires-2
     unless-requires-3

@@ -10,8 +10,8 @@ use Rattle.auction_engine.proofs.Session.settle_events.Tie as tie
 mul-f : tie.Need-mul-f
 mul-f c = search needs
 
-element-copy-out-f : tie.Need-element-copy-out-f
-element-copy-out-f c = search needs
+array-copy-out-f : tie.Need-array-copy-out-f
+array-copy-out-f c = search needs
 
 none-requires : tie.Need-none-requires
 none-requires c κs = search needs
@@ -29,4 +29,4 @@ returns-2 c = rw (c .push .ensures, c .before .before .before .none .ensures, ne
 
 pub settle-events-spec : {M : Type 1} → statement M
 settle-events-spec =
-    tie.close (tie.spec mul-f element-copy-out-f none-requires returns push-requires returns-2)
+    tie.close (tie.spec mul-f array-copy-out-f none-requires returns push-requires returns-2)

@@ -16,12 +16,12 @@ use Rattle.auction_engine.proofs.Session.skip_fill.Tie as tie
 
 -- the number of its refusal
 number : (c : tie.After-skip-refusal)
-    → c .skip-refusal .result ≡ refusal (c .before .args .t1) (call.skip (c .before .args .now) (c .before .args .fill) (c .before .args .reason))
+    → c .skip-refusal .result ≡ refusal (c .before .args .self) (call.skip (c .before .args .now) (c .before .args .fill) (c .before .args .reason))
 number c = rw (toZ-ofZ (c .before .fits .now)) at (c .skip-refusal .ensures)
 
 -- the fill is one of the array
 place : (c : tie.Else1) → c .before .before .args .fill < maxFills
-place c = let a = c .before .before .args in skip-place (a .t1) (a .now) (a .fill) (a .reason) (sym (number (c .before)) ∙ c .if1 .left)
+place c = let a = c .before .before .args in skip-place (a .self) (a .now) (a .fill) (a .reason) (sym (number (c .before)) ∙ c .if1 .left)
 
 skip-refusal-requires : tie.Need-skip-refusal-requires
 skip-refusal-requires c κs = search needs
@@ -33,13 +33,13 @@ returns : tie.Need-returns
 returns c =
     let r = c .before .before in
     let a = r .before .args in
-    refused-answer (a .t1) (call.skip (a .now) (a .fill) (a .reason)) (r .skip-refusal .result) (number r) (c .refused .result) (c .refused .ensures) (c .before .if1 .taken)
+    refused-answer (a .self) (call.skip (a .now) (a .fill) (a .reason)) (r .skip-refusal .result) (number r) (c .refused .result) (c .refused .ensures) (c .before .if1 .taken)
 
 mul-f : tie.Need-mul-f
 mul-f c = search needs
 
-element-copy-out-f : tie.Need-element-copy-out-f
-element-copy-out-f c = place c
+array-copy-out-f : tie.Need-array-copy-out-f
+array-copy-out-f c = place (c .before)
 
 none-requires : tie.Need-none-requires
 none-requires c κs = search needs
@@ -48,19 +48,19 @@ push-requires : tie.Need-push-requires
 push-requires c κs = search needs
 
 mark-settled-requires : tie.Need-mark-settled-requires
-mark-settled-requires c κs = place (c .before .before .before)
+mark-settled-requires c κs = place (c .before .before .before .before)
 
 with-bit-requires : tie.Need-with-bit-requires
-with-bit-requires c κs = place (c .before .before .before .before)
+with-bit-requires c κs = place (c .before .before .before .before .before)
 
 returns-2 : tie.Need-returns-2
 unfolding effect events skipEffect skipEvents
 returns-2 c =
     let e = c .before .before in
-    let d = e .before .before .before in
+    let d = e .before .before .before .before in
     let r = d .before in
     let a = r .before .args in
-    accepted-answer (a .t1) (call.skip (a .now) (a .fill) (a .reason)) (r .skip-refusal .result) (number r) _ (e .push .result) (d .if1 .left)
+    accepted-answer (a .self) (call.skip (a .now) (a .fill) (a .reason)) (r .skip-refusal .result) (number r) _ (e .push .result) (d .if1 .left)
     (rw (c .before .mark-settled .ensures, c .with-bit .ensures)) (rw (e .push .ensures, e .before .none .ensures) (push-first _))
 
 pub skip-fill-spec : {M : Type 1} → statement M
@@ -71,7 +71,7 @@ skip-fill-spec =
     refused-requires
     returns
     mul-f
-    element-copy-out-f
+    array-copy-out-f
     none-requires
     push-requires
     mark-settled-requires

@@ -13,8 +13,8 @@ returns c = rw (le-ltb _ _ (c .if1 .taken))
 mul-f : tie.Need-mul-f
 mul-f c = search needs
 
-element-copy-out-f : tie.Need-element-copy-out-f
-element-copy-out-f c = search needs
+array-copy-out-f : tie.Need-array-copy-out-f
+array-copy-out-f c = search needs
 
 unless-requires : tie.Need-unless-requires
 unless-requires c κs = search needs
@@ -42,7 +42,7 @@ returns-2 c =
       d .unless3 .ensures,
       d .before .before .unless2 .ensures,
       e .unless .ensures,
-      lt-ltb _ _ (e .before .before .before .if1 .left),
+      lt-ltb _ _ (e .before .before .before .before .if1 .left),
     )
 
 pub take-refusal-spec : {M : Type 1} → statement M
@@ -51,7 +51,7 @@ take-refusal-spec =
     (tie.spec
     returns
     mul-f
-    element-copy-out-f
+    array-copy-out-f
     unless-requires
     unless-requires-2
     unless-requires-3

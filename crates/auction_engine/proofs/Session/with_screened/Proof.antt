@@ -7,17 +7,17 @@ use Rattle.auction_engine.proofs.Session.with_screened.Tie as tie
 mul-o : tie.Need-mul-o
 mul-o c = search needs
 
-element-copy-out-o : tie.Need-element-copy-out-o
-element-copy-out-o c = search needs
+array-copy-out-o : tie.Need-array-copy-out-o
+array-copy-out-o c = search needs
 
 as-screened-requires : tie.Need-as-screened-requires
 as-screened-requires c κs = search needs
 
-mul-screened : tie.Need-mul-screened
-mul-screened c = search needs
+mul-orders : tie.Need-mul-orders
+mul-orders c = search needs
 
-element-set-from-screened : tie.Need-element-set-from-screened
-element-set-from-screened c = search needs
+array-set-from-orders : tie.Need-array-set-from-orders
+array-set-from-orders c = search needs
 
 returns : tie.Need-returns
 returns c = rw (c .as-screened .ensures)
@@ -27,8 +27,8 @@ with-screened-spec =
     tie.close
     (tie.spec
     mul-o
-    element-copy-out-o
+    array-copy-out-o
     as-screened-requires
-    mul-screened
-    element-set-from-screened
+    mul-orders
+    array-set-from-orders
     returns)
