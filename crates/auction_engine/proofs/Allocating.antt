@@ -21,22 +21,18 @@ use Rattle.auction_engine.specs.declared.Answer.{Answer}
 use Rattle.auction_engine.specs.declared.matching.Crank.{Crank}
 use Rattle.auction_engine.specs.Session.{atPhase}
 use Rattle.auction_engine.specs.Call.{allocate, admits, limitsRefusal, fieldsRefusal, argumentsRefusal}
-use Rattle.auction_engine.specs.Matching.{crank, overfull, fillEvents, done, phaseAfter, allocateRefusal, allocateEffect, allocateEvents}
+use Rattle.auction_engine.specs.Matching.{allocateChecks, crank, overfull, fillEvents, done, phaseAfter, allocateRefusal, allocateEffect, allocateEvents}
 use Rattle.auction_engine.specs.Cranks.{matchedBy, Turned}
 use Rattle.auction_engine.specs.Engine.{ownRefusal, refusal, effect, events, refusedBy, answer}
 use Rattle.auction_engine.proofs.Checks.{Within, checked-within, in-stages}
 use Rattle.auction_engine.proofs.Answers.{refused-answer, accepted-answer}
 use Rattle.auction_engine.proofs.Cranks.{crank-phase, crank-phase-after, crank-orders, events-fit, matched-done, matched-more}
 
--- what is checked before the turns: what any call checks, and the phase
-abbrev pub entry : Session → ℕ
-entry s = (limitsRefusal s then fieldsRefusal s) then unless (admits (s .phase) 2) 10
-
-pub entry-within : (s : Session) → entry s ≡ 0 → Within s
-entry-within s h = checked-within s (then-zero (limitsRefusal s then fieldsRefusal s) (unless (admits (s .phase) 2) 10) h .0)
+pub checks-within : (s : Session) → allocateChecks s ≡ 0 → Within s
+checks-within s h = checked-within s (then-zero (limitsRefusal s then fieldsRefusal s) (unless (admits (s .phase) 2) 10) h .0)
 
 module _ (s : Session) (now : ℤ) (n : ℕ) where
-  allocate-stages : (entry s then unless (not (overfull n s)) 18) ≡ refusal s (allocate now n)
+  allocate-stages : (allocateChecks s then unless (not (overfull n s)) 18) ≡ refusal s (allocate now n)
   unfolding argumentsRefusal ownRefusal allocateRefusal
   allocate-stages =
       then-assoc (limitsRefusal s then fieldsRefusal s) (unless (admits (s .phase) 2) 10) (unless (not (overfull n s)) 18)
@@ -44,20 +40,20 @@ module _ (s : Session) (now : ℤ) (n : ℕ) where
       ∙ in-stages s (allocate now n)
 
   -- past those checks, the fills decide
-  refused-full : entry s ≡ 0 → overfull n s ≡ true → 18 ≡ refusal s (allocate now n)
+  refused-full : allocateChecks s ≡ 0 → overfull n s ≡ true → 18 ≡ refusal s (allocate now n)
   unfolding unless
-  refused-full z f = ap (λ (x : Bool). unless (not x) 18) (sym f) ∙ then-pass (entry s) (unless (not (overfull n s)) 18) z ∙ allocate-stages
+  refused-full z f = ap (λ (x : Bool). unless (not x) 18) (sym f) ∙ then-pass (allocateChecks s) (unless (not (overfull n s)) 18) z ∙ allocate-stages
 
-  not-refused : entry s ≡ 0 → overfull n s ≡ false → 0 ≡ refusal s (allocate now n)
+  not-refused : allocateChecks s ≡ 0 → overfull n s ≡ false → 0 ≡ refusal s (allocate now n)
   unfolding unless
-  not-refused z f = ap (λ (x : Bool). unless (not x) 18) (sym f) ∙ then-pass (entry s) (unless (not (overfull n s)) 18) z ∙ allocate-stages
+  not-refused z f = ap (λ (x : Bool). unless (not x) 18) (sym f) ∙ then-pass (allocateChecks s) (unless (not (overfull n s)) 18) z ∙ allocate-stages
 
   -- refused by those checks, or by a fill that is due with no place free
-  pub allocate-refused : (m : ℕ) (r : Answer) → m ≡ entry s → (m ≡ 0 → ⊥) → r ≡ refusedBy s m → r ≡ answer s (allocate now n)
+  pub allocate-refused : (m : ℕ) (r : Answer) → m ≡ allocateChecks s → (m ≡ 0 → ⊥) → r ≡ refusedBy s m → r ≡ answer s (allocate now n)
   allocate-refused m r e z f =
       refused-answer s (allocate now n) m (then-stop m (unless (not (overfull n s)) 18) z ∙ ap (λ (x : ℕ). x then unless (not (overfull n s)) 18) e ∙ allocate-stages) r f z
 
-  pub allocate-full : (k : Crank) (r : Answer) → entry s ≡ 0 → Turned s n k → k .full ≡ true → r ≡ refusedBy s 18 → r ≡ answer s (allocate now n)
+  pub allocate-full : (k : Crank) (r : Answer) → allocateChecks s ≡ 0 → Turned s n k → k .full ≡ true → r ≡ refusedBy s 18 → r ≡ answer s (allocate now n)
   allocate-full k r z t f g = refused-answer s (allocate now n) 18 (refused-full z (sym (t .full) ∙ f)) r g (λ h. omega arith)
 
 -- an accepted call's effect and events, by whether every lot is paired
@@ -93,7 +89,7 @@ module _ (s : Session) (n : ℕ) (k : Crank) (t : Turned s n k) (f : k .full ≡
       ∙ push-packed (fillEvents n s) (changed s) (omega (arith, events-fit n s h (sym (t .full) ∙ f)))
 
   -- the answer after the turns, with every lot paired and with more to pair
-  module _ (now : ℤ) (z : entry s ≡ 0) where
+  module _ (now : ℤ) (z : allocateChecks s ≡ 0) where
     is-accepted : 0 ≡ refusal s (allocate now n)
     is-accepted = not-refused s now n z (sym (t .full) ∙ f)
 
@@ -106,7 +102,7 @@ module _ (s : Session) (n : ℕ) (k : Crank) (t : Turned s n k) (f : k .full ≡
         sym (matched-done k (phaseAfter (k .session)) u l d refl refl refl)
         ∙ accepted-answer s (allocate now n) 0 is-accepted u l refl
         (ap (λ (x : Session). atPhase x (phaseAfter x)) (t .session f) ∙ sym (effect-done s n e))
-        (pushed-change (entry-within s z .fills) ∙ ap packed (sym (events-done s n e)))
+        (pushed-change (checks-within s z .fills) ∙ ap packed (sym (events-done s n e)))
 
     answer-more : done (k .session) ≡ false → matchedBy k ≡ answer s (allocate now n)
     unfolding effect events

@@ -21,20 +21,16 @@ use Rattle.auction_engine.specs.Call.{admits, inWindow}
 abbrev pub outcome : Session → Outcome
 outcome s = computeClear (s .params) (s .given) (s .orders) (s .«order_count»)
 
--- Clear | 11; 10; 16 a revealed order unscreened; 17 volume above 64 bits
-unfoldable pub clearRefusal : Session → (now : ℤ) → ℕ
-clearRefusal s now =
-    unless (inWindow s now) 11
-    then unless (admits (s .phase) 1) 10
-    then unless (every (λ i. not (orderAt s i .revealed) || orderAt s i .screened) (s .«order_count»)) 16
-    then outcome s .refusal
-
--- all of that but the last, 17, which the outcome has
+-- Clear | 11; 10; 16 a revealed order unscreened
 abbrev pub clearChecks : Session → (now : ℤ) → ℕ
 clearChecks s now =
     unless (inWindow s now) 11
     then unless (admits (s .phase) 1) 10
     then unless (every (λ i. not (orderAt s i .revealed) || orderAt s i .screened) (s .«order_count»)) 16
+
+-- then 17 volume above 64 bits, which the outcome has
+unfoldable pub clearRefusal : Session → (now : ℤ) → ℕ
+clearRefusal s now = clearChecks s now then outcome s .refusal
 
 -- an order with its lot, none of it paired yet
 abbrev pub withLot : Order → ℕ → Order

@@ -3,16 +3,16 @@ use mathlib.Core.Bool.{Bool, true, false, cond}
 use mathlib.Core.List.{List, []}
 use Prim.Native.Nat.{ℕ}
 use lib.Dec.{eqb, leb}
-use Rattle.laws.specs.Checks.{unless, _then_}
+use Rattle.laws.specs.Checks.{_then_}
 use Rattle.events.specs.Events.{packed}
 use Rattle.events.specs.declared.Event.{Event}
 use Rattle.auction_engine.specs.declared.Session.{Session}
 use Rattle.auction_engine.specs.declared.Answer.{Answer}
 use Rattle.auction_engine.specs.declared.CallRecord.{CallRecord}
-use Rattle.auction_engine.specs.Call.{Call, screen, clear, allocate, exercise, close, settle, skip, finish, expire, admits, limitsRefusal, fieldsRefusal, argumentsRefusal}
+use Rattle.auction_engine.specs.Call.{Call, screen, clear, allocate, exercise, close, settle, skip, finish, expire, limitsRefusal, fieldsRefusal, argumentsRefusal}
 use Rattle.auction_engine.specs.Screening.{screenRefusal, screenEffect, screenEvents}
 use Rattle.auction_engine.specs.Clearing.{clearRefusal, clearChecks, clearEffect, clearEvents}
-use Rattle.auction_engine.specs.Matching.{allocateRefusal, allocateEffect, allocateEvents}
+use Rattle.auction_engine.specs.Matching.{allocateChecks, allocateRefusal, allocateEffect, allocateEvents}
 use Rattle.auction_engine.specs.Rofr.{exerciseRefusal, exerciseEffect, exerciseEvents, closeRefusal, closeEffect, closeEvents}
 use Rattle.auction_engine.specs.Settlement.{settleRefusal, settleEffect, settleEvents, skipRefusal, skipEffect, skipEvents, finishRefusal, finishEffect, finishEvents, expireRefusal, expireEffect, expireEvents}
 
@@ -88,7 +88,7 @@ applied s r = cond (leb (r .kind) 8) (answer s (callOf r)) (refusedBy s 4)
 unfoldable pub earlyRefusal : Session → Call → ℕ
 earlyRefusal s (screen now i side verdict hasId id) = refusal s (screen now i side verdict hasId id)
 earlyRefusal s (clear now) = limitsRefusal s then fieldsRefusal s then clearChecks s now
-earlyRefusal s (allocate now n) = (limitsRefusal s then fieldsRefusal s) then unless (admits (s .phase) 2) 10
+earlyRefusal s (allocate now n) = allocateChecks s
 earlyRefusal s (exercise now issuer i q) = refusal s (exercise now issuer i q)
 earlyRefusal s (close now caller) = refusal s (close now caller)
 earlyRefusal s (settle i) = refusal s (settle i)

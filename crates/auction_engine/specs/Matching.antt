@@ -14,7 +14,7 @@ use Rattle.events.specs.declared.Event.{Event}
 use Rattle.events.specs.declared.Event.the-variants.{FillAllocated, PhaseChanged}
 use Rattle.auction_engine.specs.declared.Session.{Session}
 use Rattle.auction_engine.specs.Session.{orderAt, left, remake, atPhase, settling, issuerRofr}
-use Rattle.auction_engine.specs.Call.{admits}
+use Rattle.auction_engine.specs.Call.{admits, limitsRefusal, fieldsRefusal}
 
 -- the order with q less of its lot left
 abbrev pub lessLeft : Order → ℕ → Order
@@ -76,6 +76,10 @@ crank (suc n) s = crank n (one s)
 unfoldable pub overfull : ℕ → Session → Bool
 overfull zero s = false
 overfull (suc n) s = (due s && leb maxFills (s .«fill_count»)) || overfull n (one s)
+
+-- what any call checks, and the phase
+abbrev pub allocateChecks : Session → ℕ
+allocateChecks s = (limitsRefusal s then fieldsRefusal s) then unless (admits (s .phase) 2) 10
 
 -- Allocate | 10; 18 a fill due with 24 held, the call's own counted
 unfoldable pub allocateRefusal : Session → (n : ℕ) → ℕ

@@ -11,9 +11,8 @@ ghost use Rattle.book.specs.Limits.{maxFills};
 ghost use Rattle.book.specs.Book.{orderIn};
 ghost use Rattle.events.specs.Events.{packed};
 ghost use Rattle.auction_engine.specs.Session.{left};
-ghost use Rattle.auction_engine.specs.Call.{limitsRefusal, fieldsRefusal, admits};
 ghost use Rattle.auction_engine.specs.Call as call;
-ghost use Rattle.auction_engine.specs.Matching.{dueOn, pair, phaseAfter};
+ghost use Rattle.auction_engine.specs.Matching.{allocateChecks, dueOn, pair, phaseAfter};
 ghost use Rattle.auction_engine.specs.Cranks.{begun, stepped, filled, matchedBy, Turned};
 ghost use Rattle.auction_engine.specs.Engine.{answer};
 use crate::Answer;
@@ -41,15 +40,14 @@ impl Session {
 
     // All checks but the last, 18, which the fills have.
     pub fn allocate_refusal(self) -> u8
-        ensures { λ r. ⌜ r ≡ (limitsRefusal self then fieldsRefusal self) then unless (admits (self .phase) 2) 10 ⌝ }
+        ensures { λ r. ⌜ r ≡ allocateChecks self ⌝ }
     {
         let bad = self.checked();
         let phase = crate::unless(
             crate::admits(self.phase, crate::ALLOCATE),
             book::error::WRONG_PHASE,
         );
-        let refusal = crate::first_of(bad, phase);
-        refusal
+        crate::first_of(bad, phase)
     }
 
     // What the two orders can trade: the smaller of what they have left.

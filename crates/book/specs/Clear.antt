@@ -28,6 +28,13 @@ markUnavailable = 3
 abbrev pub mathOverflow : ℕ
 mathOverflow = 17
 
+-- a clear that fails, and one that is refused: no figure, no lot
+abbrev pub failedBy : ℕ → Outcome
+failedBy reason = record { refusal = 0; failed = reason; price = 0; volume = 0; lots = replicate maxOrders 0 }
+
+abbrev pub refusedWith : ℕ → Outcome
+refusedWith number = record { refusal = number; failed = 0; price = 0; volume = 0; lots = replicate maxOrders 0 }
+
 -- values put at their places, one after the other
 unfoldable pub stored : (places values into : List ℕ) → List ℕ
 stored [] values into = into
@@ -65,19 +72,16 @@ module _ (orders : List Order) (n : ℕ) where
 
   -- 17 where the volume takes more than 64 bits, before any lot is computed
   unfoldable pub allotted : Found → Outcome
-  allotted (refused number) = record { refusal = number; failed = 0; price = 0; volume = 0; lots = replicate maxOrders 0 }
-  allotted noCross = record { refusal = 0; failed = noCrossReason; price = 0; volume = 0; lots = replicate maxOrders 0 }
+  allotted (refused number) = refusedWith number
+  allotted noCross = failedBy noCrossReason
   allotted (cross p v) =
       cond (ltb v (2 ^ 64))
       (record { refusal = 0; failed = 0; price = p; volume = v; lots = allocations p v })
-      (record { refusal = mathOverflow; failed = 0; price = 0; volume = 0; lots = replicate maxOrders 0 })
+      (refusedWith mathOverflow)
 
 -- the reserve: 'reserve 8 (0 if forced)'
 unfoldable pub floorOf : Params → Given → ℕ
 floorOf p g = cond (p .forced) 0 (g .reserve)
-
-abbrev pub failedBy : ℕ → Outcome
-failedBy reason = record { refusal = 0; failed = reason; price = 0; volume = 0; lots = replicate maxOrders 0 }
 
 -- 'TooFewReveals 1 (live orders below min_reveals), MarkUnavailable 3 (unforced, mark 0), NoCross 2, checked so', then 17
 unfoldable pub computeClear : Params → Given → List Order → ℕ → Outcome

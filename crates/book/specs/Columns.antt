@@ -11,7 +11,7 @@ use Rattle.credit_math.specs.Price.{Found, refused, noCross, cross, findUniform
 use Rattle.credit_math.specs.ProRata.{allocateProRata}
 use Rattle.credit_math.specs.Steps.{added}
 use Rattle.book.specs.Book.{orderIn, isLive, isBuy}
-use Rattle.book.specs.Clear.{failedBy, mathOverflow, noCrossReason}
+use Rattle.book.specs.Clear.{refusedWith, failedBy, mathOverflow, noCrossReason}
 use Rattle.book.specs.declared.Order.{Order}
 use Rattle.book.specs.declared.clear.Columns.{Columns}
 use Rattle.book.specs.declared.clear.Outcome.{Outcome}
@@ -53,10 +53,10 @@ lotsOf c p v = table (λ i. cond (getD (c .«is_buy») i false) (getD (columnLot
 unfoldable pub pricedAt : Columns → (p v : ℕ) → Outcome
 pricedAt c p v =
     cond (ltb v (2 ^ 64)) (record { refusal = 0; failed = 0; price = p; volume = v; lots = lotsOf c p v })
-    (record { refusal = mathOverflow; failed = 0; price = 0; volume = 0; lots = replicate maxOrders 0 })
+    (refusedWith mathOverflow)
 
 unfoldable pub byAnswer : Columns → Found → Outcome
-byAnswer c (refused number) = record { refusal = number; failed = 0; price = 0; volume = 0; lots = replicate maxOrders 0 }
+byAnswer c (refused number) = refusedWith number
 byAnswer c noCross = failedBy noCrossReason
 byAnswer c (cross p v) = pricedAt c p v
 

@@ -6,6 +6,7 @@ ghost use lib.Dec.{ltb, leb, eqb};
 ghost use lib.ListN.{length, getD, replicate};
 ghost use Rattle.laws.specs.Sums.{only, count};
 ghost use Rattle.wide.specs.Value.{value};
+ghost use Rattle.credit_math.specs.Limits.{maxOrders};
 ghost use Rattle.book.specs.Book.{isLive, isBuy};
 ghost use Rattle.book.specs.Clear.{floorOf, computeClear};
 ghost use Rattle.book.specs.Columns.{liveAt, columnsOf, numbers, sideColumn, columnLots, lotsOf, pricedAt, outcomeOf};
@@ -62,7 +63,7 @@ fn has_mark(forced: bool, mark: bool) -> bool
 }
 
 fn no_lots(refusal: u8, failed: u8) -> Outcome
-    ensures { λ r. ⌜ r ≡ record { refusal = refusal; failed = failed; price = 0; volume = 0; lots = replicate 16 0 } ⌝ }
+    ensures { λ r. ⌜ r ≡ record { refusal = refusal; failed = failed; price = 0; volume = 0; lots = replicate maxOrders 0 } ⌝ }
 {
     let lots: [u64; MAX_ORDERS] = [0; MAX_ORDERS];
     Outcome {
@@ -75,7 +76,7 @@ fn no_lots(refusal: u8, failed: u8) -> Outcome
 }
 
 fn live_count(orders: [Order; MAX_ORDERS], n: usize) -> u64
-    ensures { λ r. ⌜ r ≡ count (liveAt orders n) 16 ⌝ }
+    ensures { λ r. ⌜ r ≡ count (liveAt orders n) maxOrders ⌝ }
 {
     let m = at_most_all(n);
     let mut live = 0;
@@ -89,8 +90,8 @@ fn live_count(orders: [Order; MAX_ORDERS], n: usize) -> u64
 }
 
 // A count above the limit is read as the limit.
-fn at_most_all(n: usize) -> usize
-    ensures { λ r. ⌜ r ≡ min n 16 ⌝ }
+pub fn at_most_all(n: usize) -> usize
+    ensures { λ r. ⌜ r ≡ min n maxOrders ⌝ }
 {
     if n < MAX_ORDERS { n } else { MAX_ORDERS }
 }

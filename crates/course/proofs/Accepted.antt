@@ -12,7 +12,7 @@ use Rattle.auction_engine.specs.declared.Session.{Session}
 use Rattle.auction_engine.specs.Session.{fillAt, allocating, issuerRofr, settling}
 use Rattle.auction_engine.specs.Call.{Call, screen, clear, allocate, exercise, close, settle, skip, finish, expire, admits, limitsRefusal, fieldsRefusal, argumentsRefusal}
 use Rattle.auction_engine.specs.Screening.{screenRefusal}
-use Rattle.auction_engine.specs.Clearing.{outcome, clearRefusal}
+use Rattle.auction_engine.specs.Clearing.{outcome, clearChecks, clearRefusal}
 use Rattle.auction_engine.specs.Matching.{allocateRefusal}
 use Rattle.auction_engine.specs.Rofr.{exerciseRefusal, closeRefusal}
 use Rattle.auction_engine.specs.Settlement.{settleRefusal, skipRefusal, finishRefusal, expireRefusal}
@@ -47,11 +47,11 @@ early-screen s now i side verdict hasId id e = check-zero _ _ _ (check-zero _ _ 
 
 pub early-clear : (s : Session) (now : ℤ) → refusal s (clear now) ≡ 0 → Early (s .phase)
 unfolding ownRefusal clearRefusal admits
-early-clear s now e = check-zero _ _ _ (check-zero _ _ _ (own-passes s (clear now) e) .1) .0
+early-clear s now e = check-zero _ _ _ (check-zero _ _ _ (then-zero (clearChecks s now) (outcome s .refusal) (own-passes s (clear now) e) .0) .1) .0
 
 pub outcome-passes : (s : Session) (now : ℤ) → refusal s (clear now) ≡ 0 → outcome s .refusal ≡ 0
 unfolding ownRefusal clearRefusal
-outcome-passes s now e = check-zero _ _ _ (check-zero _ _ _ (check-zero _ _ _ (own-passes s (clear now) e) .1) .1) .1
+outcome-passes s now e = then-zero (clearChecks s now) (outcome s .refusal) (own-passes s (clear now) e) .1
 
 pub at-allocate : (s : Session) (now : ℤ) (n : ℕ) → refusal s (allocate now n) ≡ 0 → s .phase ≡ allocating
 unfolding ownRefusal allocateRefusal admits

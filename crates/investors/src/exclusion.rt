@@ -27,7 +27,7 @@ pub fn investor_exclusion(
 ) -> u8
     ensures { λ r. ⌜ r ≡ investorExclusion orders «order_count» index id «max_cash» ⌝ }
 {
-    let n = at_most_all(order_count);
+    let n = book::clear::at_most_all(order_count);
     let side = side_of(orders, index);
     if trades_itself(orders, n, index, id, side) {
         return SELF_TRADE;
@@ -40,12 +40,6 @@ pub fn investor_exclusion(
         return INVESTOR_CAP_EXCEEDED;
     }
     0
-}
-
-fn at_most_all(n: usize) -> usize
-    ensures { λ r. ⌜ r ≡ min n maxOrders ⌝ }
-{
-    if n < MAX_ORDERS { n } else { MAX_ORDERS }
 }
 
 fn side_of(orders: [Order; MAX_ORDERS], i: usize) -> u8

@@ -4,16 +4,17 @@ use mathlib.Core.Path.{_≡_, refl, sym, _∙_}
 use borrow.Author.Needs.{needs}
 use Rattle.auction_engine.specs.Cranks.{Turned}
 use Rattle.auction_engine.proofs.Checks.{Within}
-use Rattle.auction_engine.proofs.Allocating.{entry, entry-within, allocate-refused, allocate-full, turned-orders, allocate-matched}
+use Rattle.auction_engine.specs.Matching.{allocateChecks}
+use Rattle.auction_engine.proofs.Allocating.{checks-within, allocate-refused, allocate-full, turned-orders, allocate-matched}
 use Rattle.auction_engine.proofs.Session.allocate.Statement.{statement}
 use Rattle.auction_engine.proofs.Session.allocate.Tie as tie
 
 -- the number that the checks before the turns come to is 0
-passed : (c : tie.Else1) → entry (c .before .before .args .self) ≡ 0
+passed : (c : tie.Else1) → allocateChecks (c .before .before .args .self) ≡ 0
 passed c = sym (c .before .allocate-refusal .ensures) ∙ c .if1 .left
 
 within : (c : tie.Else1) → Within (c .before .before .args .self)
-within c = entry-within (c .before .before .args .self) (passed c)
+within c = checks-within (c .before .before .args .self) (passed c)
 
 -- the turns begin at the session
 turns : (c : tie.After-turned) → let a = c .before .before .before .before .args in Turned (a .self) (a .max-fills) (c .turned .result)
