@@ -3,6 +3,7 @@
 mod case;
 mod records;
 mod slices;
+mod words;
 
 use case::Case;
 use oracle::random::Random;

@@ -1,14 +1,7 @@
-//! The entries of the static library `harness_entries`, on parallel slices, behind safe functions that answer in the oracle's words.
+//! The entries of the static library `harness_entries`, on parallel slices, behind safe functions.
 use crate::case::Case;
-
-#[repr(C)]
-struct Figures {
-    refusal: u8,
-    crosses: bool,
-    price: u64,
-    volume_hi: u64,
-    volume_lo: u64,
-}
+use crate::words;
+use host::Figures;
 
 extern "C" {
     fn entry_find_uniform_clear_price(
@@ -45,24 +38,13 @@ pub fn price(is_buy: &[bool], limits: &[u64], qtys: &[u64], reserve: u64, refere
     let (qtys, qtys_len) = (qtys.as_ptr(), qtys.len());
     // Each pointer goes with its slice's length, and the entry reads no further.
     let f = unsafe { entry_find_uniform_clear_price(sides, sides_len, limits, limits_len, qtys, qtys_len, reserve, reference) };
-    match (f.refusal, f.crosses) {
-        (0, true) => format!("{} {}", f.price, u128::from(f.volume_hi) << 64 | u128::from(f.volume_lo)),
-        (0, false) => "NoCross".to_string(),
-        (number, _) => format!("refused {number}"),
-    }
+    words::price(f.answer())
 }
 
-/// The lots, in an output with room for so many; a refusal must leave it as it was.
+/// The lots, in an output with room for so many.
 pub fn pro_rata(total: u64, ids: &[u64], qtys: &[u64], room: usize) -> String {
-    const MARK: u64 = 0x5eed_5eed_5eed_5eed;
-    let mut out = vec![MARK; room];
     let (ids, ids_len) = (ids.as_ptr(), ids.len());
     let (qtys, qtys_len) = (qtys.as_ptr(), qtys.len());
     // As above; the output is lent for the call alone.
-    let refusal = unsafe { entry_allocate_pro_rata(total, ids, ids_len, qtys, qtys_len, out.as_mut_ptr(), room) };
-    if refusal == 0 {
-        return out.iter().map(u64::to_string).collect::<Vec<_>>().join(" ");
-    }
-    let touched = if out.iter().any(|&x| x != MARK) { ", output touched" } else { "" };
-    format!("refused {refusal}{touched}")
+    words::lots(room, |out| unsafe { entry_allocate_pro_rata(total, ids, ids_len, qtys, qtys_len, out.as_mut_ptr(), out.len()) })
 }

@@ -26,18 +26,28 @@ pub struct Cross {
     pub volume: u128,
 }
 
-mod c {
-    use super::{Bid, Order};
+/// What the price search answers, in numbers: a refusal or 0, whether there is a cross, its price and the two words of its volume.
+#[repr(C)]
+pub struct Figures {
+    refusal: u8,
+    crosses: bool,
+    price: u64,
+    volume_hi: u64,
+    volume_lo: u64,
+}
 
-    /// What the price search answers, in numbers: a refusal or 0, whether there is a cross, its price and the two words of its volume.
-    #[repr(C)]
-    pub struct Figures {
-        pub refusal: u8,
-        pub crosses: bool,
-        pub price: u64,
-        pub volume_hi: u64,
-        pub volume_lo: u64,
+impl Figures {
+    pub fn answer(&self) -> Result<Option<Cross>, Refusal> {
+        if self.refusal != 0 {
+            return Err(Refusal::of(self.refusal));
+        }
+        let volume = u128::from(self.volume_hi) << 64 | u128::from(self.volume_lo);
+        Ok(self.crosses.then_some(Cross { price: self.price, volume }))
     }
+}
+
+mod c {
+    use super::{Bid, Figures, Order};
 
     extern "C" {
         pub fn find_uniform_clear_price(orders: *const Order, orders_len: usize, reserve: u64, reference: u64) -> Figures;
@@ -56,12 +66,7 @@ mod c {
 /// ```
 pub fn find_uniform_clear_price(orders: &[Order], reserve: u64, reference: u64) -> Result<Option<Cross>, Refusal> {
     // The pointer goes with the slice's length, and the slice is lent for the call alone.
-    let found = unsafe { c::find_uniform_clear_price(orders.as_ptr(), orders.len(), reserve, reference) };
-    if found.refusal != 0 {
-        return Err(Refusal::of(found.refusal));
-    }
-    let volume = u128::from(found.volume_hi) << 64 | u128::from(found.volume_lo);
-    Ok(found.crosses.then_some(Cross { price: found.price, volume }))
+    unsafe { c::find_uniform_clear_price(orders.as_ptr(), orders.len(), reserve, reference) }.answer()
 }
 
 /// The lots of a total over at most 16 bids, in the bids' order.

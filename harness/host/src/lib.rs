@@ -14,7 +14,7 @@ mod allocation;
 mod entry;
 mod refusal;
 
-pub use allocation::{allocate_pro_rata, allocate_pro_rata_into, find_uniform_clear_price, Bid, Cross, Order};
+pub use allocation::{allocate_pro_rata, allocate_pro_rata_into, find_uniform_clear_price, Bid, Cross, Figures, Order};
 pub use entry::clear_session_file;
 pub use refusal::Refusal;
 
