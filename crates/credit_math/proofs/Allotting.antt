@@ -9,6 +9,7 @@ use native.Mathlib.Numerals.{add-one-le}
 use native.Mathlib.Omega.{arith}
 use lib.Dec.{ltb}
 use lib.ListN.{length, getD}
+use borrow.Author.Tests.{le-ltb}
 use Rattle.laws.specs.Sums.{sumBelow, only, count, sumOf}
 use Rattle.laws.specs.Lex.{lex}
 use Rattle.laws.proofs.Sums.{sum-none, sum-more, sum-mono, sum-step, sum-end, only-one}
@@ -62,6 +63,14 @@ module _ {ids qtys : List ℕ} {total sum : ℕ} (a : Allotting ids qtys total s
 
   pub lot-fits : (i : ℕ) → lot ids qtys total i ≤ getD qtys i 0
   lot-fits i = lot-le ids qtys total within-sum i
+
+  -- where no unit falls to it: a quantity of 0 has no lot, and with no residue the lot is the share
+  pub lot-empty : (i : ℕ) → getD qtys i 0 ≡ 0 → 0 ≡ lot ids qtys total i
+  lot-empty i e = omega (arith, lot-fits i)
+
+  pub lot-share : (i s left : ℕ) → s ≡ share total sum (getD qtys i 0) → left ≡ residue qtys total → left ≡ 0 → s ≡ lot ids qtys total i
+  unfolding lot
+  lot-share i s left e h z = rw (le-ltb (rank ids qtys i) (residue qtys total) (omega arith)) (omega (arith, e ∙ same-share (getD qtys i 0)))
 
 -- r of the first j places come before i
 pub record Ranking (ids qtys : List ℕ) (i j r : ℕ) : Type 0 where

@@ -1,6 +1,6 @@
 -- The loop of the search follows the walk through the orders, and what it keeps is what is answered.
 -- Assumes nothing.
-use mathlib.Core.Path.{_≡_, refl, sym, _∙_, ap, ap₂, subst}
+use mathlib.Core.Path.{_≡_, refl, sym, _∙_, ap, ap₂}
 use mathlib.Core.Logic.{⊎-elim}
 use mathlib.Core.Bool.{Bool, true, false, cond, _&&_}
 use mathlib.Core.List.{List}
@@ -20,9 +20,9 @@ use Rattle.credit_math.specs.Price.{Best, at, improves, step, walk, buy,
 use Rattle.credit_math.specs.Steps.{Quoted, AllQuoted, best, ahead, chosen, after, byOrder}
 use Rattle.credit_math.proofs.Price.{by-order-is, no-refusal}
 
-module _ (C : ℕ → Bool) (B : ℕ → ℕ → Bool) (b b′ : Best) (l : List ℕ) (i p : ℕ) where
-  walk-next : i < length l → p ≡ getD l i 0 → b′ ≡ step C B b p → walk C B b′ (drop (i + 1) l) ≡ walk C B b (drop i l)
-  walk-next h e f = rw (add-one, drop-cons l i 0 h, f, e)
+module _ (C : ℕ → Bool) (B : ℕ → ℕ → Bool) (b b′ : Best) (l : List ℕ) (i : ℕ) where
+  walk-next : i < length l → b′ ≡ step C B b (getD l i 0) → walk C B b′ (drop (i + 1) l) ≡ walk C B b (drop i l)
+  walk-next h f = rw (add-one, drop-cons l i 0 h, f)
 
   walk-end : length l ≤ i → walk C B b (drop i l) ≡ b
   walk-end h = ap (walk C B b) (drop-of-length-le l h)
@@ -98,6 +98,19 @@ module _ (isBuy : List Bool) (limits qtys : List ℕ) (reserve reference : ℕ) 
       (λ (t : leb reserve (q .price) ≡ false). rw t (refl, a))
       (tested (leb reserve (q .price))))
 
+-- a limit p is tried: what is kept goes from k to k′ as the walk does
+abbrev Tried : List Bool → List ℕ → List ℕ → (reserve reference p : ℕ) → (k k′ : Kept) → Type 0
+Tried isBuy limits qtys reserve reference p k k′ =
+    (best k′ ≡ step (counts isBuy limits qtys reserve) (better isBuy limits qtys reference) (best k) p) × AllQuoted isBuy limits qtys k′
+
+-- below the reserve nothing changes, else it is quoted
+module _ (isBuy : List Bool) (limits qtys : List ℕ) (reserve reference p : ℕ) (k : Kept) (a : AllQuoted isBuy limits qtys k) where
+  pub tried-below : p < reserve → Tried isBuy limits qtys reserve reference p k k
+  tried-below h = rw (lt-leb reserve p h) (refl, a)
+
+  pub tried-quote : {k′ : Kept} (q : Quote) → (q .price ≡ p) × Quoted isBuy limits qtys q → k′ ≡ after k q reserve reference → Tried isBuy limits qtys reserve reference p k k′
+  tried-quote q f e = rw (e, sym (f .0)) (after-step isBuy limits qtys reserve reference q (f .1) k a)
+
 -- the search at place i, with the best so far: what is left of the walk ends with the price
 pub record Searching (isBuy : List Bool) (limits qtys : List ℕ) (reserve reference : ℕ) (k : Kept) (i : ℕ) : Type 0 where
   pub inside : i ≤ length limits
@@ -109,20 +122,17 @@ module _ {isBuy : List Bool} {limits qtys : List ℕ} {reserve reference : ℕ} 
   unfolding byOrder
   searching = record { inside = zero-le; rest = refl; quoted = tt }
 
-  pub searching-more : {k k′ : Kept} {i : ℕ} (q : Quote) → Searching isBuy limits qtys reserve reference k i → i < length limits
-      → (q .price ≡ getD limits i 0) × Quoted isBuy limits qtys q → k′ ≡ after k q reserve reference → Searching isBuy limits qtys reserve reference k′ (i + 1)
-  searching-more {k} {k′} {i} q s h p e =
-      let f = after-step isBuy limits qtys reserve reference q (p .1) k (s .quoted) in
-      record {
-        inside = add-one-le h;
-        rest =
-            walk-next (counts isBuy limits qtys reserve) (better isBuy limits qtys reference) (best k) (best k′) limits i (q .price) h (p .0) (ap best e ∙ f .0) ∙ s .rest;
-        quoted = subst (AllQuoted isBuy limits qtys) (sym e) (f .1);
-      }
+  pub searching-more : {k k′ : Kept} {i : ℕ} → Searching isBuy limits qtys reserve reference k i → i < length limits
+      → Tried isBuy limits qtys reserve reference (getD limits i 0) k k′ → Searching isBuy limits qtys reserve reference k′ (i + 1)
+  searching-more {k} {k′} {i} s h f = record {
+    inside = add-one-le h;
+    rest = walk-next (counts isBuy limits qtys reserve) (better isBuy limits qtys reference) (best k) (best k′) limits i h (f .0) ∙ s .rest;
+    quoted = f .1;
+  }
 
   pub searched : {k : Kept} {i : ℕ} → Searching isBuy limits qtys reserve reference k i → length limits ≤ i
       → (best k ≡ byOrder isBuy limits qtys reserve reference) × AllQuoted isBuy limits qtys k
-  searched {k} {i} s h = (sym (walk-end (counts isBuy limits qtys reserve) (better isBuy limits qtys reference) (best k) (best k) limits i 0 h) ∙ s .rest, s .quoted)
+  searched {k} {i} s h = (sym (walk-end (counts isBuy limits qtys reserve) (better isBuy limits qtys reference) (best k) (best k) limits i h) ∙ s .rest, s .quoted)
 
 -- what is answered of what was kept
 abbrev pub answer : Kept → price.Found

@@ -1,6 +1,6 @@
 // Uniform-price clearing and pro-rata lots, on parallel slices of 64-bit numbers.
 ghost use mathlib.Core.Path.{_≡_};
-ghost use mathlib.Core.Bool.{true, false};
+ghost use mathlib.Core.Bool.{true, false, _&&_};
 ghost use Prim.Native.Nat.{ℕ, _+_, _-_, _*_, _/_, _%_, _^_, _<_, _≤_, min};
 ghost use lib.ListN.{length, getD};
 ghost use lib.Dec.{ltb, leb, eqb};
@@ -9,7 +9,7 @@ ghost use Rattle.laws.specs.Lists.{table};
 ghost use Rattle.laws.specs.Lex.{lex};
 ghost use Rattle.wide.specs.Value.{value, apart};
 ghost use Rattle.credit_math.specs.Limits.{maxOrders};
-ghost use Rattle.credit_math.specs.Price.{found, findUniformClearPrice};
+ghost use Rattle.credit_math.specs.Price.{found, findUniformClearPrice, executes, better, step};
 ghost use Rattle.credit_math.specs.ProRata.{share, residue, proRataRefusal, allocateProRata};
 ghost use Rattle.credit_math.specs.Steps.{Book, added, sideTotal, Quoted, AllQuoted, best, ahead, after, byOrder, Whole, Allotting, before, rank, lot};
 use wide::Wide;
@@ -80,11 +80,32 @@ fn search(is_buy: &[bool], limits: &[u64], qtys: &[u64], reserve: u64, reference
     let mut kept = Kept::Nothing;
     let mut i = 0;
     while i < limits.len() {
-        let q = quote_at(is_buy, limits, qtys, limits[i]);
-        kept = consider(kept, q, reserve, reference);
+        kept = tried(kept, is_buy, limits, qtys, limits[i], reserve, reference);
         i += 1;
     }
     kept
+}
+
+// The best so far, after a limit: below the reserve it is passed over with no quote.
+fn tried(
+    kept: Kept,
+    is_buy: &[bool],
+    limits: &[u64],
+    qtys: &[u64],
+    p: u64,
+    reserve: u64,
+    reference: u64,
+) -> Kept
+    requires { ⌜ Book (now «is_buy») (now limits) (now qtys) × AllQuoted (now «is_buy») (now limits) (now qtys) kept ⌝ }
+    ensures { λ r. ⌜ (best r ≡ step (λ x. leb reserve x && executes (now («is_buy» .entry)) (now (limits .entry)) (now (qtys .entry)) x)
+        (better (now («is_buy» .entry)) (now (limits .entry)) (now (qtys .entry)) reference) (best kept) p)
+        × AllQuoted (now («is_buy» .entry)) (now (limits .entry)) (now (qtys .entry)) r ⌝ }
+{
+    if p < reserve {
+        return kept;
+    }
+    let q = quote_at(is_buy, limits, qtys, p);
+    consider(kept, q, reserve, reference)
 }
 
 // The best so far, after a quote: below the reserve, or executing 0, it is passed over.
@@ -275,12 +296,19 @@ fn floor_share(total: u64, qty: u64, sum_qty: Wide) -> u64
     part.quotient.lo
 }
 
-// The lot of place i: its share, and a unit of the residue where its turn comes.
+// The lot of place i: its share, and a unit of the residue where its turn comes. No rank is worked out where no unit can fall to it.
 fn lot_of(total: u64, sum_qty: Wide, left: u64, ids: &[u64], qtys: &[u64], i: usize) -> u64
     requires { ⌜ Allotting (now ids) (now qtys) total (value «sum_qty») × (left ≡ residue (now qtys) total) × (i < length (now qtys)) ⌝ }
     ensures { λ r. ⌜ r ≡ lot (now (ids .entry)) (now (qtys .entry)) total i ⌝ }
 {
-    let share = floor_share(total, qtys[i], sum_qty);
+    let qty = qtys[i];
+    if qty == 0 {
+        return 0;
+    }
+    let share = floor_share(total, qty, sum_qty);
+    if left == 0 {
+        return share;
+    }
     let turn = rank_of(ids, qtys, i);
     share + unit(turn < left)
 }

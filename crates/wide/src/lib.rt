@@ -124,6 +124,10 @@ pub fn divide(n: Wide, d: Wide) -> Division
             rest: n,
         };
     }
+    // Here d is not above n, so it fits where n does.
+    if fits_word(n) {
+        return word_division(n.lo, d.lo);
+    }
     if 0x8000_0000_0000_0000 <= d.hi {
         return Division {
             quotient: of_word(1),
@@ -131,6 +135,17 @@ pub fn divide(n: Wide, d: Wide) -> Division
         };
     }
     long_division(n, d)
+}
+
+// Both in one word: the machine's division.
+fn word_division(n: u64, d: u64) -> Division
+    requires { ⌜ 0 < d ⌝ }
+    ensures { λ r. ⌜ Divided n d r ⌝ }
+{
+    Division {
+        quotient: of_word(n / d),
+        rest: of_word(n % d),
+    }
 }
 
 // In binary, from the highest digit of n, for a divisor whose double fits two words.

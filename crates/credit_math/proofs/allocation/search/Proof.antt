@@ -17,17 +17,14 @@ abbrev μ-loop : tie.MeasureT-loop
 loop-holds : tie.Need-loop-holds Inv-loop μ-loop
 loop-holds c = searching
 
-mul-quote-at : tie.Need-mul-quote-at Inv-loop μ-loop
-mul-quote-at c = search needs
+mul-tried : tie.Need-mul-tried Inv-loop μ-loop
+mul-tried c = search needs
 
-shared-slice-read-quote-at : tie.Need-shared-slice-read-quote-at Inv-loop μ-loop
-shared-slice-read-quote-at c = omega arith
+shared-slice-read-tried : tie.Need-shared-slice-read-tried Inv-loop μ-loop
+shared-slice-read-tried c = omega arith
 
-quote-at-requires : tie.Need-quote-at-requires Inv-loop μ-loop
-quote-at-requires c κs = search needs
-
-consider-requires : tie.Need-consider-requires Inv-loop μ-loop
-consider-requires c κs = search needs
+tried-requires : tie.Need-tried-requires Inv-loop μ-loop
+tried-requires c κs = (c .before .before .before .before .before .before .pre, c .before .before .loop .inv .quoted)
 
 add-i : tie.Need-add-i Inv-loop μ-loop
 add-i c = omega arith
@@ -36,7 +33,7 @@ loop-less : tie.Need-loop-less Inv-loop μ-loop
 loop-less c = omega arith
 
 loop-again : tie.Need-loop-again Inv-loop μ-loop
-loop-again c = searching-more (c .before .quote-at .result) (c .before .before .before .before .loop .inv) (c .before .before .before .loop-test .taken) (c .before .quote-at .ensures) (c .consider .ensures)
+loop-again c = searching-more (c .before .before .before .loop .inv) (c .before .before .loop-test .taken) (c .tried .ensures)
 
 returns : tie.Need-returns Inv-loop μ-loop
 returns c = searched (c .before .loop .inv) (c .loop-test .left)
@@ -48,10 +45,9 @@ search-spec =
     Inv-loop
     μ-loop
     loop-holds
-    mul-quote-at
-    shared-slice-read-quote-at
-    quote-at-requires
-    consider-requires
+    mul-tried
+    shared-slice-read-tried
+    tried-requires
     add-i
     loop-less
     loop-again
