@@ -1,20 +1,22 @@
--- One event pushed onto a packed list is the packed longer list. Assumes nothing.
+-- One event pushed onto a packed list is the packed longer list; a list of at most two is what its small struct holds.
+-- Assumes nothing.
 use mathlib.Core.Path.{_≡_, refl, sym, _∙_, ap}
 use mathlib.Core.List.{List, [], _∷_, _++_, map, append-assoc}
-use Prim.Native.Nat.{ℕ, suc, _+_, _-_, _<_}
+use Prim.Native.Nat.{ℕ, suc, _+_, _-_, _<_, _≤_}
 use native.Mathlib.Omega.{arith}
 use borrow.Author.Tests.{lt-ltb}
-use lib.ListN.{length, set, replicate, length-append}
-use lib.Seq.{set-append-seam}
+use lib.ListN.{length, set, replicate, length-append, length-take}
+use lib.Seq.{take-all, set-append-seam}
 use Rattle.events.specs.declared.Event.{Event}
 use Rattle.events.specs.declared.Line.{Line}
-use Rattle.events.specs.Events.{maxEvents, lineOf, blank, packed, pushed}
+use Rattle.events.specs.declared.Few.{Few}
+use Rattle.events.specs.Events.{maxEvents, lineOf, blank, packed, pushed, few, inFew}
 
 map-append : (l k : List Event) → map lineOf (l ++ k) ≡ map lineOf l ++ map lineOf k
 map-append [] k = refl
 map-append (e ∷ l) k = ap (λ m. lineOf e ∷ m) (map-append l k)
 
-length-lines : (l : List Event) → length (map lineOf l) ≡ length l
+pub length-lines : (l : List Event) → length (map lineOf l) ≡ length l
 length-lines [] = refl
 length-lines (e ∷ l) = ap suc (length-lines l)
 
@@ -40,3 +42,16 @@ push-first e = push-packed [] e (omega arith)
 
 pub push-second : (e f : Event) → pushed (packed (e ∷ [])) f ≡ packed (e ∷ f ∷ [])
 push-second e f = push-packed (e ∷ []) f (omega arith)
+
+pub in-few : (l : List Event) → length l ≤ 2 → inFew (few l) ≡ l
+in-few [] h = refl
+in-few (e ∷ []) h = refl
+in-few (e ∷ f ∷ []) h = refl
+in-few (e ∷ f ∷ g ∷ l) h = absurd (omega arith)
+
+-- such a struct holds both of its events where it counts two or more, and no more than two
+pub both-held : (f : Few) → 2 ≤ f .count → inFew f ≡ f .first ∷ f .second ∷ []
+both-held f h = take-all (f .count) (f .first ∷ f .second ∷ []) h
+
+pub two-held : (f : Few) → length (inFew f) ≤ 2
+two-held f = rw (length-take (f .count) (f .first ∷ f .second ∷ [])) (omega arith)

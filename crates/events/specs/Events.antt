@@ -3,12 +3,13 @@ use mathlib.Core.Bool.{Bool, true, false, cond}
 use mathlib.Core.List.{List, [], _∷_, _++_, map}
 use Prim.Native.Nat.{ℕ, _+_, _-_}
 use lib.Dec.{ltb}
-use lib.ListN.{length, set, replicate}
+use lib.ListN.{length, getD, take, set, replicate}
 use Rattle.book.specs.Limits.{maxFills}
 use Rattle.events.specs.declared.Event.{Event}
 use Rattle.events.specs.declared.Event.the-variants.{Nothing}
 use Rattle.events.specs.declared.Line.{Line}
 use Rattle.events.specs.declared.Events.{Events}
+use Rattle.events.specs.declared.Few.{Few}
 
 -- the most events of one call: every fill, and the change of phase
 abbrev pub maxEvents : ℕ
@@ -27,3 +28,11 @@ packed l = record { lines = map lineOf l ++ replicate (maxEvents - length l) bla
 -- one event more, where there is room
 unfoldable pub pushed : Events → Event → Events
 pushed es e = cond (ltb (es .count) maxEvents) (record { lines = set (es .lines) (es .count) (lineOf e); count = es .count + 1 }) es
+
+-- the struct that holds a list of at most two
+abbrev pub few : List Event → Few
+few l = record { count = length l; first = getD l 0 Nothing; second = getD l 1 Nothing }
+
+-- the events that it holds
+abbrev pub inFew : Few → List Event
+inFew f = take (f .count) (f .first ∷ f .second ∷ [])

@@ -1,7 +1,7 @@
 // The events of a call, in the source's names and order.
 ghost use mathlib.Core.Path.{_≡_};
-ghost use mathlib.Core.List.{[]};
-ghost use Rattle.events.specs.Events.{packed, pushed};
+ghost use mathlib.Core.List.{[], _∷_};
+ghost use Rattle.events.specs.Events.{packed, pushed, few, inFew};
 
 // The most events of one call: every fill, and the change of phase.
 pub const MAX_EVENTS: usize = book::MAX_FILLS + 1;
@@ -95,5 +95,61 @@ impl Events {
             return more;
         }
         self
+    }
+}
+
+// At most two events: all that a call says that makes no fills. It is smaller than Events, and so cheaper to make and to copy.
+pub struct Few {
+    pub count: usize,
+    pub first: Event,
+    pub second: Event,
+}
+
+impl Few {
+    pub fn none() -> Self
+        ensures { λ r. ⌜ r ≡ few [] ⌝ }
+    {
+        Few {
+            count: 0,
+            first: Event::Nothing,
+            second: Event::Nothing,
+        }
+    }
+
+    pub fn one(e: Event) -> Self
+        ensures { λ r. ⌜ r ≡ few (e ∷ []) ⌝ }
+    {
+        Few {
+            count: 1,
+            first: e,
+            second: Event::Nothing,
+        }
+    }
+
+    pub fn two(e: Event, f: Event) -> Self
+        ensures { λ r. ⌜ r ≡ few (e ∷ f ∷ []) ⌝ }
+    {
+        Few {
+            count: 2,
+            first: e,
+            second: f,
+        }
+    }
+
+    // The same events in the struct that holds any call's.
+    pub fn all(self) -> Events
+        ensures { λ r. ⌜ r ≡ packed (inFew self) ⌝ }
+    {
+        let none = Events::none();
+        if self.count == 0 {
+            return none;
+        }
+        let first = self.first;
+        let one = none.push(first);
+        if self.count == 1 {
+            return one;
+        }
+        let second = self.second;
+        one.push(second)
     }
 }

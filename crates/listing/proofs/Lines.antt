@@ -1,23 +1,25 @@
--- A record's lines: those of its events one after the other, and what is said of it by kind; and the last line.
+-- A record's lines: those of its events one after the other, and what is said of it by kind, brief or not; and the last line.
 -- Assumes nothing.
-use mathlib.Core.Path.{_≡_, refl}
-use mathlib.Core.Logic.{_≢_}
+use mathlib.Core.Path.{_≡_, refl, sym, _∙_, ap}
 use mathlib.Core.Bool.{Bool, true, false}
 use mathlib.Core.List.{List, [], _∷_, _++_, map, map-append, append-assoc, append-nil}
-use Prim.Native.Nat.{ℕ, zero, suc, _+_, _<_, _≤_}
+use Prim.Native.Nat.{ℕ, zero, suc, _+_, _-_, _<_, _≤_}
+use native.Mathlib.Nat.{min-eq-left}
 use native.Mathlib.Numerals.{add-one}
 use native.Mathlib.Omega.{arith}
 use borrow.Author.Tests.{ne-eqb}
 use lib.Count.{ones}
-use lib.ListN.{length, getD, take}
-use lib.Seq.{take-suc}
+use lib.ListN.{length, getD, take, replicate}
+use lib.Seq.{take-at, take-suc}
 use Rattle.events.specs.declared.Event.{Event}
 use Rattle.events.specs.declared.Line.{Line}
+use Rattle.events.specs.Events.{maxEvents, lineOf, blank, packed, few, inFew}
+use Rattle.events.proofs.Packed.{length-lines, in-few, two-held}
 use Rattle.listing.specs.declared.words.Word.{Word}
 use Rattle.listing.specs.declared.words.Parts.{Parts}
-use Rattle.listing.specs.declared.Record.{Record}
+use Rattle.listing.specs.declared.Brief.{Brief}
 use Rattle.listing.specs.Words.{noneWord, endWord, space, newline}
-use Rattle.listing.specs.Lines.{eventLine, eventLines, eventsIn, opened, ordered, refused, happened, recordLines, said, endLine}
+use Rattle.listing.specs.Lines.{eventLine, eventLines, eventsIn, refused, happened, recordLines, saidAs, said, briefly, endLine}
 use Rattle.listing.specs.Parts.{letters, parts, rest, partsLine}
 use Rattle.listing.specs.Writing.{Puts}
 use Rattle.listing.proofs.Spliced.{puts-puts}
@@ -36,9 +38,13 @@ unfolding eventLines
 lines-append number [] fs = refl
 lines-append number (e ∷ es) fs = rw (lines-append number es fs, append-assoc)
 
-lines-one : (number : ℕ) (e : Event) → eventLines number (e ∷ []) ≡ eventLine number e
+pub lines-one : (number : ℕ) (e : Event) → eventLines number (e ∷ []) ≡ eventLine number e
 unfolding eventLines
 lines-one number e = append-nil (eventLine number e)
+
+pub lines-two : (number : ℕ) (e f : Event) → eventLines number (e ∷ f ∷ []) ≡ eventLine number e ++ eventLine number f
+unfolding eventLines
+lines-two number e f = ap (λ (l : List ℕ). eventLine number e ++ l) (append-nil (eventLine number f))
 
 lines-take : (number i : ℕ) (l : List Line) (d : Line) → i < length l
     → eventLines number (eventsOf (take (i + 1) l)) ≡ eventLines number (eventsOf (take i l)) ++ eventLine number (getD l i d .event)
@@ -55,22 +61,32 @@ happened-some number zero l g h = absurd (omega arith)
 happened-some number (suc n) [] g h = absurd (omega arith)
 happened-some number (suc n) (x ∷ l) g h = refl
 
--- what is said by kind
-pub said-opened : (r : Record) → r .kind ≡ 0 → said r ≡ opened
-unfolding said
-said-opened r h = rw h
+-- what is said by kind: refused whatever the events, and the events from kind 3 on
+pub said-refused : (kind figure : ℕ) (l : List Event) → kind ≡ 2 → saidAs kind figure l ≡ refused figure
+said-refused kind figure l h = rw h
 
-pub said-ordered : (r : Record) → r .kind ≡ 1 → said r ≡ ordered (r .figure)
-unfolding said
-said-ordered r h = rw h
+pub said-happened : (kind figure : ℕ) (l : List Event) → 3 ≤ kind → saidAs kind figure l ≡ happened l
+said-happened kind figure l h = rw (ne-eqb kind 0 (omega arith), ne-eqb kind 1 (omega arith), ne-eqb kind 2 (omega arith))
 
-pub said-refused : (r : Record) → r .kind ≡ 2 → said r ≡ refused (r .figure)
-unfolding said
-said-refused r h = rw h
+-- the events of a packed list are the list
+events-lines : (l : List Event) → eventsOf (map lineOf l) ≡ l
+events-lines [] = refl
+events-lines (e ∷ l) = ap (λ m. e ∷ m) (events-lines l)
 
-pub said-happened : (r : Record) → r .kind ≢ 0 → r .kind ≢ 1 → r .kind ≢ 2 → said r ≡ happened (eventsIn (r .events))
-unfolding said
-said-happened r a b c = rw (ne-eqb _ _ a, ne-eqb _ _ b, ne-eqb _ _ c)
+pub in-packed : (l : List Event) → length l ≤ maxEvents → eventsIn (packed l) ≡ l
+unfolding packed
+in-packed l h =
+    rw (min-eq-left h, take-at (map lineOf l) (replicate (maxEvents - length l) blank) (length l) (length-lines l)) (events-lines l)
+
+-- a brief record says what the record with the same events says
+pub said-all : (b : Brief) → said (record { kind = b .kind; figure = b .figure; events = packed (inFew (b .events)) }) ≡ briefly b
+unfolding said briefly
+said-all b = ap (saidAs (b .kind) (b .figure)) (in-packed (inFew (b .events)) (omega (arith, two-held (b .events))))
+
+pub brief-said : (kind figure : ℕ) (l : List Event) → length l ≤ 2
+    → briefly (record { kind = kind; figure = figure; events = few l }) ≡ said (record { kind = kind; figure = figure; events = packed l })
+unfolding said briefly
+brief-said kind figure l h = ap (saidAs kind figure) (in-few l h ∙ sym (in-packed l (omega arith)))
 
 -- the last line, with an accepted header and without
 pub end-rest : {accepted : Bool} (w : Word) (phase skipped q : ℕ) {p : Parts} → letters w ≡ endWord → accepted ≡ true → q ≡ ones skipped → p ≡ parts w (phase ∷ q ∷ [])

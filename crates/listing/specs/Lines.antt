@@ -6,11 +6,12 @@ use lib.Count.{ones}
 use lib.Dec.{ltb, eqb}
 use lib.ListN.{take}
 use Rattle.laws.specs.Sums.{only}
-use Rattle.events.specs.Events.{maxEvents}
+use Rattle.events.specs.Events.{maxEvents, inFew}
 use Rattle.events.specs.declared.Event.{Event}
 use Rattle.events.specs.declared.Event.the-variants.{Nothing, OrderScreened, Cleared, SessionFailed, FillAllocated, RofrExercised, RofrClosed, FillSettled, FillSkipped, ClearingPrint, PhaseChanged}
 use Rattle.events.specs.declared.Events.{Events}
 use Rattle.listing.specs.declared.Record.{Record}
+use Rattle.listing.specs.declared.Brief.{Brief}
 use Rattle.listing.specs.Words.{openWord, orderWord, screenWord, clearWord, failedWord, fillWord, rofrWord, closeWord, settleWord, skipWord, printWord, phaseWord, refusedWord, noneWord, endWord, space, newline}
 
 -- 'the listing prints them in base ten': the last k digits of x at most, with no leading zero
@@ -70,13 +71,20 @@ recordLines number (refused refusal) = line number refusedWord (refusal ∷ [])
 recordLines number (happened []) = line number noneWord []
 recordLines number (happened (e ∷ es)) = eventLines number (e ∷ es)
 
--- the cases of the declared struct: 0 open, 1 order, 2 refused, else its events
+-- the cases of the declared structs: 0 open, 1 order, 2 refused, else its events
+abbrev pub saidAs : (kind figure : ℕ) → List Event → Said
+saidAs kind figure l =
+    cond (eqb kind 0) opened
+    (cond (eqb kind 1) (ordered figure)
+    (cond (eqb kind 2) (refused figure)
+    (happened l)))
+
+-- what is said of a record, and of a brief one
 unfoldable pub said : Record → Said
-said r =
-    cond (eqb (r .kind) 0) opened
-    (cond (eqb (r .kind) 1) (ordered (r .figure))
-    (cond (eqb (r .kind) 2) (refused (r .figure))
-    (happened (eventsIn (r .events)))))
+said r = saidAs (r .kind) (r .figure) (eventsIn (r .events))
+
+unfoldable pub briefly : Brief → Said
+briefly b = saidAs (b .kind) (b .figure) (inFew (b .events))
 
 -- 'Last: `end P S`, phase and the number of skipped fills counted from the bitmap, or `end none` without an accepted header'
 unfoldable pub endLine : (accepted : Bool) (phase skipped : ℕ) → List ℕ

@@ -6,12 +6,13 @@ ghost use Prim.Native.Nat.{ℕ, _+_, _*_, _%_, _≤_, min};
 ghost use lib.Count.{ones};
 ghost use lib.Dec.{leb};
 ghost use lib.ListN.{length, take};
-ghost use Rattle.events.specs.Events.{maxEvents};
-ghost use Rattle.listing.specs.Lines.{decimal, fields, eventLines, eventsIn, happened, recordLines, said, endLine, maxDigits, maxLetters, maxFigures, maxRest, maxLine, maxRecord};
+ghost use Rattle.events.specs.Events.{maxEvents, inFew};
+ghost use Rattle.listing.specs.Lines.{decimal, fields, eventLines, eventsIn, happened, recordLines, said, briefly, endLine, maxDigits, maxLetters, maxFigures, maxRest, maxLine, maxRecord};
 ghost use Rattle.listing.specs.Parts.{Short, rest, partsLine};
 ghost use Rattle.listing.specs.Writing.{Writes, Puts};
 use crate::words::Parts;
 use events::Events;
+use events::Few;
 use events::Line;
 use events::MAX_EVENTS;
 
@@ -48,6 +49,16 @@ pub struct Record {
     pub events: Events,
 }
 
+// What is said of a record with at most two events; the kinds are those of a Record.
+pub struct Brief {
+    pub kind: u8,
+    pub figure: u64,
+    pub events: Few,
+}
+
+// The kinds below this have one line, with no event.
+const HAPPENED: u8 = 3;
+
 // A record's lines at the start of out; where they are longer than out, 27, and out is left as it was.
 pub fn put_record(out: &mut [u8], number: u64, record: Record) -> Written
     ensures { λ r. ⌜ Writes (recordLines number (said «record»)) r (now (out .entry)) (now (out .exit)) ⌝ }
@@ -56,6 +67,24 @@ pub fn put_record(out: &mut [u8], number: u64, record: Record) -> Written
         let len = put_said(out, number, record);
         return Written { refusal: 0, len };
     }
+    put_copied(out, number, record)
+}
+
+// A brief record's lines, likewise.
+pub fn put_brief(out: &mut [u8], number: u64, brief: Brief) -> Written
+    ensures { λ r. ⌜ Writes (recordLines number (briefly brief)) r (now (out .entry)) (now (out .exit)) ⌝ }
+{
+    if ROOM <= out.len() {
+        let len = put_briefly(out, number, brief);
+        return Written { refusal: 0, len };
+    }
+    let few = brief.events;
+    let events = few.all();
+    let record = Record {
+        kind: brief.kind,
+        figure: brief.figure,
+        events,
+    };
     put_copied(out, number, record)
 }
 
@@ -119,17 +148,17 @@ fn put_said(out: &mut [u8], number: u64, record: Record) -> usize
     requires { ⌜ maxRecord ≤ length (now out) ⌝ }
     ensures { λ r. ⌜ Puts (recordLines number (said «record»)) 0 r (now (out .entry)) (now (out .exit)) × (r ≤ maxRecord) ⌝ }
 {
-    let kind = record.kind;
-    match kind {
-        0 => put_line(out, 0, number, words::bare(words::OPEN)),
-        1 => put_line(out, 0, number, words::one(words::ORDER, record.figure)),
-        2 => put_line(out, 0, number, words::one(words::REFUSED, record.figure)),
-        _ => {
-            let events = record.events;
-            let lines = events.lines;
-            put_events(out, number, lines, events.count)
-        }
+    if record.kind < HAPPENED {
+        return put_line(
+            out,
+            0,
+            number,
+            words::said_parts(record.kind, record.figure),
+        );
     }
+    let events = record.events;
+    let lines = events.lines;
+    put_events(out, number, lines, events.count)
 }
 
 // `none`, or a line for each event.
@@ -169,6 +198,35 @@ fn put_lines(out: &mut [u8], number: u64, lines: [Line; MAX_EVENTS], n: usize) -
         i += 1;
     }
     k
+}
+
+// The lines of a brief record, by its kind.
+fn put_briefly(out: &mut [u8], number: u64, brief: Brief) -> usize
+    requires { ⌜ maxRecord ≤ length (now out) ⌝ }
+    ensures { λ r. ⌜ Puts (recordLines number (briefly brief)) 0 r (now (out .entry)) (now (out .exit)) × (r ≤ maxRecord) ⌝ }
+{
+    if brief.kind < HAPPENED {
+        return put_line(out, 0, number, words::said_parts(brief.kind, brief.figure));
+    }
+    let few = brief.events;
+    put_few(out, number, few)
+}
+
+// `none`, or a line for each of at most two events.
+fn put_few(out: &mut [u8], number: u64, few: Few) -> usize
+    requires { ⌜ maxRecord ≤ length (now out) ⌝ }
+    ensures { λ r. ⌜ Puts (recordLines number (happened (inFew few))) 0 r (now (out .entry)) (now (out .exit)) × (r ≤ maxRecord) ⌝ }
+{
+    if few.count == 0 {
+        return put_line(out, 0, number, words::bare(words::NONE));
+    }
+    let first = few.first;
+    let k = put_line(out, 0, number, words::parts_of(first));
+    if few.count == 1 {
+        return k;
+    }
+    let second = few.second;
+    put_line(out, k, number, words::parts_of(second))
 }
 
 // A line: the record's number, a space, and the rest.

@@ -1,9 +1,9 @@
 // The words of a listing, and the word and the figures of each event's line.
 ghost use mathlib.Core.Path.{_≡_};
-ghost use mathlib.Core.List.{[], _∷_};
-ghost use Prim.Native.Nat.{ℕ};
+ghost use mathlib.Core.List.{List, [], _∷_};
+ghost use Prim.Native.Nat.{ℕ, _<_};
 ghost use Rattle.laws.specs.Sums.{only};
-ghost use Rattle.listing.specs.Lines.{eventLine};
+ghost use Rattle.listing.specs.Lines.{eventLine, recordLines, saidAs};
 ghost use Rattle.listing.specs.Parts.{Short, parts, partsLine};
 use crate::MAX_FIGURES;
 use crate::MAX_LETTERS;
@@ -13,9 +13,9 @@ use events::Print;
 // A word: its letters, with spaces after them, and how many they are.
 pub struct Word(pub [u8; MAX_LETTERS], pub usize);
 
-pub const OPEN: Word = Word(*b"open   ", 4);
+const OPEN: Word = Word(*b"open   ", 4);
 
-pub const ORDER: Word = Word(*b"order  ", 5);
+const ORDER: Word = Word(*b"order  ", 5);
 
 const SCREEN: Word = Word(*b"screen ", 6);
 
@@ -37,7 +37,7 @@ const PRINT: Word = Word(*b"print  ", 5);
 
 const PHASE: Word = Word(*b"phase  ", 5);
 
-pub const REFUSED: Word = Word(*b"refused", 7);
+const REFUSED: Word = Word(*b"refused", 7);
 
 pub const NONE: Word = Word(*b"none   ", 4);
 
@@ -48,6 +48,17 @@ pub struct Parts {
     pub word: Word,
     pub count: usize,
     pub nums: [u64; MAX_FIGURES],
+}
+
+// The word and the figure of a record without events: opened, an order, or refused.
+pub fn said_parts(kind: u8, figure: u64) -> Parts
+    ensures { λ r. ⌜ Short r × (kind < 3 → (number : ℕ) (l : List Event) → partsLine number r ≡ recordLines number (saidAs kind figure l)) ⌝ }
+{
+    match kind {
+        0 => bare(OPEN),
+        1 => one(ORDER, figure),
+        _ => one(REFUSED, figure),
+    }
 }
 
 // The word and the figures of an event's line.
@@ -95,7 +106,7 @@ pub fn bare(word: Word) -> Parts
     }
 }
 
-pub fn one(word: Word, a: u64) -> Parts
+fn one(word: Word, a: u64) -> Parts
     ensures { λ r. ⌜ r ≡ parts word (a ∷ []) ⌝ }
 {
     Parts {
