@@ -1,14 +1,13 @@
 -- Laws of the definitions of allocate: what a turn does, what turns keep, and how many events they make. Assumes nothing.
 use mathlib.Core.Path.{_≡_, refl, sym, _∙_, ap}
-use mathlib.Core.Bool.{Bool, true, false, cond, _&&_, and-false}
+use mathlib.Core.Bool.{Bool, true, false, cond, and-false}
 use mathlib.Core.List.{[], _∷_}
-use Prim.Native.Nat.{ℕ, zero, suc, _+_, _<_, _≤_, min}
+use Prim.Native.Nat.{ℕ, zero, suc, _+_, _<_, _≤_}
 use native.Mathlib.Omega.{arith}
-use borrow.Author.Tests.{lt-ltb, le-ltb, lt-leb, le-leb, ltb-true, leb-true, leb-false}
-use lib.Dec.{ltb, leb}
+use borrow.Author.Tests.{lt-leb, le-leb, leb-true, leb-false}
+use lib.Dec.{leb}
 use lib.ListN.{length}
-use Rattle.laws.proofs.Tests.{clash, both}
-use Rattle.credit_math.specs.Limits.{maxOrders}
+use Rattle.laws.proofs.Tests.{clash}
 use Rattle.book.specs.Limits.{maxFills}
 use Rattle.events.specs.declared.Events.{Events}
 use Rattle.events.specs.declared.Event.{Event}
@@ -17,9 +16,9 @@ use Rattle.events.specs.Events.{pushed}
 use Rattle.auction_engine.specs.declared.Session.{Session}
 use Rattle.auction_engine.specs.declared.Answer.{Answer}
 use Rattle.auction_engine.specs.declared.matching.Crank.{Crank}
-use Rattle.auction_engine.specs.Session.{left, atPhase}
+use Rattle.auction_engine.specs.Session.{atPhase}
 use Rattle.auction_engine.specs.Matching.{buyAt, sellAt, due, dueQty, pair, one, crank, overfull, fillEvents, done, phaseAfter}
-use Rattle.auction_engine.specs.Cranks.{filled, stepped, matchedBy}
+use Rattle.auction_engine.specs.Cranks.{matchedBy}
 
 -- what a pairing keeps, one fill and any number of turns keep
 module _ {A : Type 0} (f : Session → A) (h : (s : Session) (b a q : ℕ) → f (pair s b a q) ≡ f s) where
@@ -119,50 +118,6 @@ events-fit (suc n) s h e = go (due s) refl (leb maxFills (s .«fill_count»)) re
         let g : one s .«fill_count» ≡ s .«fill_count» + 1 = due-count s d in
         omega (arith, ih (omega arith) (sym (free-full n s l) ∙ e))
     go true d true f ih = absurd (clash (overfull (suc n) s) (due-full s d n (leb-true maxFills (s .«fill_count») f)) e)
-
--- a turn: it makes the fill that is due, finds no place for it, or finds none due
-module _ (k : Crank) where
-  pub step-fills : due (k .session) ≡ true → k .session .«fill_count» < maxFills → stepped k ≡ record { stopped = false; full = false; session = one (k .session); events = pushed (k .events) (dueEvent (k .session)) }
-  unfolding stepped filled one
-  step-fills d h = rw (d, lt-ltb (k .session .«fill_count») maxFills h)
-
-  pub step-full : due (k .session) ≡ true → maxFills ≤ k .session .«fill_count» → stepped k ≡ record { stopped = true; full = true; session = k .session; events = k .events }
-  unfolding stepped filled
-  step-full d h = rw (d, le-ltb (k .session .«fill_count») maxFills h)
-
-  pub step-stops : due (k .session) ≡ false → stepped k ≡ record { stopped = true; full = false; session = k .session; events = k .events }
-  unfolding stepped
-  step-stops d = rw d
-
--- a fill as the code comes to it, where a place is free and where none is
-module _ (k : Crank) (b a : ℕ) where
-  pub filled-pairs : (q : ℕ) (t : Session) (l : Events) → k .session .«fill_count» < maxFills → q ≡ min (left (k .session) b) (left (k .session) a)
-      → t ≡ pair (k .session) b a (min (left (k .session) b) (left (k .session) a)) → l ≡ pushed (k .events) (FillAllocated (k .session .«fill_count») b a q)
-      → _≡_ {A = Crank} (record { stopped = false; full = false; session = t; events = l }) (filled k b a)
-  unfolding filled
-  filled-pairs q t l h e f g = rw (g, f, e, lt-ltb (k .session .«fill_count») maxFills h)
-
-  pub filled-full : maxFills ≤ k .session .«fill_count» → _≡_ {A = Crank} (record { stopped = true; full = true; session = k .session; events = k .events }) (filled k b a)
-  unfolding filled
-  filled-full h = rw (le-ltb (k .session .«fill_count») maxFills h)
-
--- a turn as the code comes to it, from the two places that it found
-module _ (k : Crank) (b a : ℕ) (e : b ≡ buyAt (k .session)) (f : a ≡ sellAt (k .session)) where
-  due-as : (ltb b (k .session .«order_count») && ltb a (k .session .«order_count»)) ≡ due (k .session)
-  unfolding due
-  due-as = rw (e, f)
-
-  pub stepped-fills : (ltb b (k .session .«order_count») && ltb a (k .session .«order_count»)) ≡ true → filled k b a ≡ stepped k
-  unfolding stepped
-  stepped-fills t = rw (sym due-as ∙ t, e, f)
-
-  pub stepped-stops : (ltb b (k .session .«order_count») && ltb a (k .session .«order_count»)) ≡ false
-      → _≡_ {A = Crank} (record { stopped = true; full = false; session = k .session; events = k .events }) (stepped k)
-  stepped-stops t = sym (step-stops k (sym due-as ∙ t))
-
--- two places below the count are places of the array
-pub both-places : (b a n : ℕ) → (ltb b n && ltb a n) ≡ true → n ≤ maxOrders → (b < maxOrders) × (a < maxOrders)
-both-places b a n t h = let e = both (ltb b n) (ltb a n) t in (omega (arith, ltb-true b n (e .0)), omega (arith, ltb-true a n (e .1)))
 
 -- the answer as the code comes to it, by whether every lot is paired
 module _ (k : Crank) where

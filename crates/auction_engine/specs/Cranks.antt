@@ -1,38 +1,35 @@
 -- What the private functions of an allocate keep on the way. proofs/ shows that they come to Matching.antt.
 use mathlib.Core.Path.{_≡_}
-use mathlib.Core.Bool.{Bool, true, false, cond}
+use mathlib.Core.Bool.{false, cond, _&&_}
 use mathlib.Core.List.{List, []}
-use Prim.Native.Nat.{ℕ, _+_, min}
+use Prim.Native.Nat.{ℕ}
 use lib.Dec.{ltb}
-use Rattle.book.specs.Limits.{maxFills}
+use Rattle.laws.specs.Search.{first}
+use Rattle.book.specs.Book.{buySide, sellSide, orderIn}
+use Rattle.book.specs.declared.Order.{Order}
+use Rattle.book.specs.declared.Fill.{Fill}
 use Rattle.events.specs.Events.{packed, pushed}
-use Rattle.events.specs.declared.Event.the-variants.{FillAllocated, PhaseChanged}
+use Rattle.events.specs.declared.Event.the-variants.{PhaseChanged}
 use Rattle.auction_engine.specs.declared.Session.{Session}
 use Rattle.auction_engine.specs.declared.Answer.{Answer}
 use Rattle.auction_engine.specs.declared.matching.Crank.{Crank}
-use Rattle.auction_engine.specs.Session.{left, atPhase}
-use Rattle.auction_engine.specs.Matching.{buyAt, sellAt, due, pair, crank, overfull, fillEvents, done, phaseAfter}
+use Rattle.auction_engine.specs.declared.matching.Pair.{Pair}
+use Rattle.auction_engine.specs.Session.{atPhase}
+use Rattle.auction_engine.specs.Matching.{dueOn, crank, overfull, fillEvents, done, phaseAfter}
 
 abbrev pub begun : Session → Crank
-begun s = record { stopped = false; full = false; session = s; events = packed [] }
+begun s = record { full = false; session = s; events = packed [] }
 
--- a fill of order b with order a, where there is room
-unfoldable pub filled : Crank → (b a : ℕ) → Crank
-filled k b a =
-    cond (ltb (k .session .«fill_count») maxFills)
-    (record {
-      stopped = false;
-      full = false;
-      session = pair (k .session) b a (min (left (k .session) b) (left (k .session) a));
-      events = pushed (k .events) (FillAllocated (k .session .«fill_count») b a (min (left (k .session) b) (left (k .session) a)));
-    })
-    (record { stopped = true; full = true; session = k .session; events = k .events })
+-- the two orders that the next fill pairs, if one is due
+abbrev pub nextPair : List Order → ℕ → Pair
+nextPair os n =
+    let b : ℕ = first (λ i. dueOn buySide (orderIn os i)) n in
+    let a : ℕ = first (λ i. dueOn sellSide (orderIn os i)) n in
+    record { due = ltb b n && ltb a n; buy = b; sell = a }
 
--- one turn
-unfoldable pub stepped : Crank → Crank
-stepped k =
-    cond (due (k .session)) (filled k (buyAt (k .session)) (sellAt (k .session)))
-    (record { stopped = true; full = false; session = k .session; events = k .events })
+-- a fill of q as it is first written
+abbrev pub fillOf : (buy sell : Order) → ℕ → Fill
+fillOf buy sell q = record { buyer = buy .owner; seller = sell .owner; qty = q; rofr = false; settled = false }
 
 -- what at most n turns come to
 pub record Turned (s : Session) (n : ℕ) (k : Crank) : Type 0 where

@@ -1,19 +1,16 @@
 // The call `allocate`: buyers and sellers with something left are paired, in book order, at most as often as the call allows.
 ghost use mathlib.Core.Path.{_≡_};
-ghost use mathlib.Core.Bool.{Bool, true, false, cond, not, _&&_};
-ghost use mathlib.Core.List.{[]};
-ghost use Prim.Native.Nat.{ℕ, _+_, _<_, _≤_, min};
-ghost use lib.Dec.{ltb, leb, eqb};
+ghost use Prim.Native.Nat.{_<_, _≤_, min};
+ghost use lib.Dec.{eqb};
 ghost use Rattle.laws.specs.Search.{first, every};
-ghost use Rattle.laws.specs.Checks.{unless, _then_};
 ghost use Rattle.credit_math.specs.Limits.{maxOrders};
 ghost use Rattle.book.specs.Limits.{maxFills};
 ghost use Rattle.book.specs.Book.{orderIn};
-ghost use Rattle.events.specs.Events.{packed};
-ghost use Rattle.auction_engine.specs.Session.{left};
+ghost use Rattle.events.specs.Events.{lineOf};
+ghost use Rattle.events.specs.declared.Event.the-variants.{FillAllocated};
 ghost use Rattle.auction_engine.specs.Call as call;
-ghost use Rattle.auction_engine.specs.Matching.{allocateChecks, dueOn, pair, phaseAfter};
-ghost use Rattle.auction_engine.specs.Cranks.{begun, stepped, filled, matchedBy, Turned};
+ghost use Rattle.auction_engine.specs.Matching.{allocateChecks, lessLeft, dueOn, phaseAfter};
+ghost use Rattle.auction_engine.specs.Cranks.{begun, nextPair, fillOf, matchedBy, Turned};
 ghost use Rattle.auction_engine.specs.Engine.{answer};
 use crate::Answer;
 use crate::Session;
@@ -21,6 +18,7 @@ use book::Fill;
 use book::Order;
 use events::Event;
 use events::Events;
+use events::Line;
 
 impl Session {
     // At most `max_fills` fills more; the phase moves on once every lot is paired. The clock is not read.
@@ -50,46 +48,6 @@ impl Session {
         crate::first_of(bad, phase)
     }
 
-    // What the two orders can trade: the smaller of what they have left.
-    fn pair_qty(self, b: usize, a: usize) -> u64
-        requires { ⌜ (b < maxOrders) × (a < maxOrders) ⌝ }
-        ensures { λ r. ⌜ r ≡ min (left self b) (left self a) ⌝ }
-    {
-        let buy = self.orders[b];
-        let sell = self.orders[a];
-        smaller(buy.alloc_left, sell.alloc_left)
-    }
-
-    // Order b buys of order a what the two can trade.
-    fn paired(self, b: usize, a: usize) -> Session
-        requires { ⌜ (b < maxOrders) × (a < maxOrders) × (self .«fill_count» < maxFills) ⌝ }
-        ensures { λ r. ⌜ r ≡ pair self b a (min (left self b) (left self a)) ⌝ }
-    {
-        let qty = self.pair_qty(b, a);
-        let buy = self.orders[b];
-        let sell = self.orders[a];
-        let mut less_buy = buy;
-        less_buy.alloc_left = buy.alloc_left - qty;
-        let mut less_sell = sell;
-        less_sell.alloc_left = sell.alloc_left - qty;
-        let buyer = buy.owner;
-        let seller = sell.owner;
-        let at = self.fill_count;
-        let fill = Fill {
-            buyer,
-            seller,
-            qty,
-            rofr: false,
-            settled: false,
-        };
-        let mut next = self;
-        next.orders[b] = less_buy;
-        next.orders[a] = less_sell;
-        next.fills[at] = fill;
-        next.fill_count = at + 1;
-        next
-    }
-
     // IssuerRofr with an authority, else Settling.
     fn phase_after(self) -> u8
         ensures { λ r. ⌜ r ≡ phaseAfter self ⌝ }
@@ -103,9 +61,8 @@ impl Session {
     }
 }
 
-// A session in the middle of an allocate: stopped where no fill is due, or, full, where one is due and no place is free.
+// A session after the fills of an allocate; full where one more was due and no place free.
 pub struct Crank {
-    pub stopped: bool,
     pub full: bool,
     pub session: Session,
     pub events: Events,
@@ -117,79 +74,48 @@ impl Crank {
     {
         let events = Events::none();
         Crank {
-            stopped: false,
             full: false,
             session,
             events,
         }
     }
 
-    // At most n fills.
+    // At most n fills, each written in place: a session is too large to copy for each.
     fn turned(self, n: u8) -> Self
         requires { ⌜ (self ≡ begun (self .session)) × (self .session .«order_count» ≤ maxOrders) × (self .session .«fill_count» ≤ maxFills) ⌝ }
         ensures { λ r. ⌜ Turned (self .session) n r ⌝ }
     {
-        let mut k = self;
+        let mut session = self.session;
+        let mut events = self.events;
         let mut i: u8 = 0;
         while i < n {
-            if k.stopped {
-                return k;
+            let orders = session.orders;
+            let next = next_pair(orders, session.order_count);
+            let at = session.fill_count;
+            if !crate::both(next.due, at < Session::MAX_FILLS) {
+                return Crank {
+                    full: next.due,
+                    session,
+                    events,
+                };
             }
-            k = k.step();
+            let b = next.buy;
+            let a = next.sell;
+            let buy = orders[b];
+            let sell = orders[a];
+            let qty = smaller(buy.alloc_left, sell.alloc_left);
+            session.orders[b] = less_left(buy, qty);
+            session.orders[a] = less_left(sell, qty);
+            session.fills[at] = fill_of(buy, sell, qty);
+            session.fill_count = at + 1;
+            let end = events.count;
+            events.lines[end] = fill_line(at, b, a, qty);
+            events.count = end + 1;
             i += 1;
         }
-        k
-    }
-
-    // The fill that is due, if any.
-    fn step(self) -> Self
-        requires { ⌜ self .session .«order_count» ≤ maxOrders ⌝ }
-        ensures { λ r. ⌜ r ≡ stepped self ⌝ }
-    {
-        let s = self.session;
-        let events = self.events;
-        let orders = s.orders;
-        let n = s.order_count;
-        let b = first_left(orders, n, 0);
-        let a = first_left(orders, n, 1);
-        if crate::both(b < n, a < n) {
-            return self.fill(b, a);
-        }
         Crank {
-            stopped: true,
             full: false,
-            session: s,
-            events,
-        }
-    }
-
-    fn fill(self, b: usize, a: usize) -> Self
-        requires { ⌜ (b < maxOrders) × (a < maxOrders) ⌝ }
-        ensures { λ r. ⌜ r ≡ filled self b a ⌝ }
-    {
-        let s = self.session;
-        let events = self.events;
-        let at = s.fill_count;
-        if at < Session::MAX_FILLS {
-            let qty = s.pair_qty(b, a);
-            let more = events.push(Event::FillAllocated {
-                fill: at as u32,
-                buy: b as u8,
-                sell: a as u8,
-                qty,
-            });
-            let next = s.paired(b, a);
-            return Crank {
-                stopped: false,
-                full: false,
-                session: next,
-                events: more,
-            };
-        }
-        Crank {
-            stopped: true,
-            full: true,
-            session: s,
+            session,
             events,
         }
     }
@@ -220,10 +146,21 @@ impl Crank {
     }
 }
 
-fn smaller(a: u64, b: u64) -> u64
-    ensures { λ r. ⌜ r ≡ min a b ⌝ }
+// The two orders of the next fill; none is due where a side has nothing left.
+struct Pair {
+    due: bool,
+    buy: usize,
+    sell: usize,
+}
+
+fn next_pair(orders: [Order; Session::MAX_ORDERS], n: usize) -> Pair
+    requires { ⌜ n ≤ maxOrders ⌝ }
+    ensures { λ r. ⌜ r ≡ nextPair orders n ⌝ }
 {
-    if a <= b { a } else { b }
+    let buy = first_left(orders, n, 0);
+    let sell = first_left(orders, n, 1);
+    let due = crate::both(buy < n, sell < n);
+    Pair { due, buy, sell }
 }
 
 // The first order of a side with something left; n where there is none.
@@ -246,6 +183,49 @@ fn is_due(o: Order, side: u8) -> bool
     ensures { λ r. ⌜ r ≡ dueOn side o ⌝ }
 {
     crate::both(o.side == side, 0 < o.alloc_left)
+}
+
+fn smaller(a: u64, b: u64) -> u64
+    ensures { λ r. ⌜ r ≡ min a b ⌝ }
+{
+    if a <= b { a } else { b }
+}
+
+fn less_left(o: Order, qty: u64) -> Order
+    requires { ⌜ qty ≤ o .«alloc_left» ⌝ }
+    ensures { λ r. ⌜ r ≡ lessLeft o qty ⌝ }
+{
+    let mut less = o;
+    less.alloc_left = o.alloc_left - qty;
+    less
+}
+
+// Neither settled nor bought by the issuer: those come later.
+fn fill_of(buy: Order, sell: Order, qty: u64) -> Fill
+    ensures { λ r. ⌜ r ≡ fillOf buy sell qty ⌝ }
+{
+    let buyer = buy.owner;
+    let seller = sell.owner;
+    Fill {
+        buyer,
+        seller,
+        qty,
+        rofr: false,
+        settled: false,
+    }
+}
+
+fn fill_line(at: usize, b: usize, a: usize, qty: u64) -> Line
+    requires { ⌜ (at < maxFills) × (b < maxOrders) × (a < maxOrders) ⌝ }
+    ensures { λ r. ⌜ r ≡ lineOf (FillAllocated at b a qty) ⌝ }
+{
+    let event = Event::FillAllocated {
+        fill: at as u32,
+        buy: b as u8,
+        sell: a as u8,
+        qty,
+    };
+    Line { event }
 }
 
 fn none_left(orders: [Order; Session::MAX_ORDERS], n: usize) -> bool

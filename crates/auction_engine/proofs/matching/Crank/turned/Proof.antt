@@ -1,45 +1,132 @@
--- `auction_engine::matching::Crank::turned` meets its contract: with turns left, what is left decides (`Turning`).
+-- `auction_engine::matching::Crank::turned` meets its contract: with turns left, what is left decides (`Going`).
 -- Assumes nothing.
+use mathlib.Core.Path.{sym, _∙_}
 use Prim.Native.Nat.{_-_, _≤_}
 use borrow.Author.Needs.{needs}
-use Rattle.auction_engine.proofs.Turns.{Turning, turning-start, not-full, turning-more, turning-stop, turning-end}
+use borrow.Author.Tests.{not-true, not-false}
+use Rattle.auction_engine.specs.Matching.{pair}
+use Rattle.auction_engine.proofs.Turns.{Going, Free, going-start, going-free, going-stops, going-more, going-end}
 use Rattle.auction_engine.proofs.matching.Crank.turned.Statement.{statement}
 use Rattle.auction_engine.proofs.matching.Crank.turned.Tie as tie
 
 abbrev Inv-loop : tie.InvT-loop
-Inv-loop n k₀ i₀ k i = (i ≤ n) × Turning (k₀ .session) n (n - i) k
+Inv-loop n session₀ events₀ i₀ session events i = (i ≤ n) × Going session₀ n (n - i) session events
 
 abbrev μ-loop : tie.MeasureT-loop
-μ-loop n k₀ i₀ k i = n - i
+μ-loop n session₀ events₀ i₀ session events i = n - i
+
+-- past the test, the fill and its event have a place
+ready : (c : tie.Else1 Inv-loop μ-loop) → let p = c .before .before in let q = p .before .before .before in Free (q .loop .session) (q .loop .events) (p .next-pair .result)
+ready c =
+    let p = c .before .before in
+    let q = p .before .before .before in
+    let a = q .before .before .before .args in
+    going-free (a .self .session) (a .n) (a .n - q .loop .i) (q .loop .session) (q .loop .events) (p .next-pair .result) (q .loop .inv .1) (p .next-pair .ensures) (sym (c .before .both .ensures) ∙ not-false _ (c .if1 .left))
 
 loop-holds : tie.Need-loop-holds Inv-loop μ-loop
-loop-holds c = (search needs, turning-start (c .args .n) (c .args .self) (c .pre .0) (c .pre .1) (c .pre .2))
+loop-holds c = let s = c .before .before in (search needs, going-start (s .args .n) (s .args .self) (s .pre .0) (s .pre .1) (s .pre .2))
+
+next-pair-requires : tie.Need-next-pair-requires Inv-loop μ-loop
+next-pair-requires c κs = search needs
+
+both-requires : tie.Need-both-requires Inv-loop μ-loop
+both-requires c κs = search needs
 
 returns : tie.Need-returns Inv-loop μ-loop
 returns c =
-    let q = c .before .before in
-    turning-stop (q .before .args .self .session) (q .before .args .n) (q .before .args .n - q .loop .i) (q .loop .k) (q .loop .inv .1) (c .if1 .taken)
+    let p = c .before .before in
+    let q = p .before .before .before in
+    let a = q .before .before .before .args in
+    going-stops (a .self .session) (a .n) (q .loop .i) (q .loop .session) (q .loop .events) (p .next-pair .result) (p .before .before .loop-test .taken) (q .loop .inv .1) (p .next-pair .ensures) (sym (c .before .both .ensures) ∙ not-true _ (c .if1 .taken))
 
-step-requires : tie.Need-step-requires Inv-loop μ-loop
-step-requires c κs =
-    let q = c .before .before in
-    not-full (q .before .args .self .session) (q .before .args .n) (q .before .args .n - q .loop .i) (q .loop .k) (q .loop .inv .1) (c .if1 .left) .orders
+mul-buy : tie.Need-mul-buy Inv-loop μ-loop
+mul-buy c = let f = ready c in search needs
+
+array-copy-out-buy : tie.Need-array-copy-out-buy Inv-loop μ-loop
+array-copy-out-buy c = let f = ready c in search needs
+
+mul-sell : tie.Need-mul-sell Inv-loop μ-loop
+mul-sell c = let f = ready (c .before) in search needs
+
+array-copy-out-sell : tie.Need-array-copy-out-sell Inv-loop μ-loop
+array-copy-out-sell c = let f = ready (c .before) in search needs
+
+smaller-requires : tie.Need-smaller-requires Inv-loop μ-loop
+smaller-requires c κs = search needs
+
+less-left-requires : tie.Need-less-left-requires Inv-loop μ-loop
+less-left-requires c κs = search needs
+
+mul-session : tie.Need-mul-session Inv-loop μ-loop
+mul-session c = let f = ready (c .before .before .before .before) in search needs
+
+element-set-from-session : tie.Need-element-set-from-session Inv-loop μ-loop
+element-set-from-session c = let f = ready (c .before .before .before .before) in search needs
+
+less-left-requires-2 : tie.Need-less-left-requires-2 Inv-loop μ-loop
+less-left-requires-2 c κs = search needs
+
+mul-t17 : tie.Need-mul-t17 Inv-loop μ-loop
+mul-t17 c = let f = ready (c .before .before .before .before .before) in search needs
+
+element-set-from-session-2 : tie.Need-element-set-from-session-2 Inv-loop μ-loop
+element-set-from-session-2 c = let f = ready (c .before .before .before .before .before) in search needs
+
+fill-of-requires : tie.Need-fill-of-requires Inv-loop μ-loop
+fill-of-requires c κs = search needs
+
+mul-t17-2 : tie.Need-mul-t17-2 Inv-loop μ-loop
+mul-t17-2 c = let f = ready (c .before .before .before .before .before .before) in search needs
+
+element-set-from-session-3 : tie.Need-element-set-from-session-3 Inv-loop μ-loop
+element-set-from-session-3 c = let f = ready (c .before .before .before .before .before .before) in search needs
+
+add-session : tie.Need-add-session Inv-loop μ-loop
+add-session c = let f = ready (c .before .before .before .before .before .before) in search needs
+
+fill-line-requires : tie.Need-fill-line-requires Inv-loop μ-loop
+fill-line-requires c κs = let f = ready (c .before .before .before .before .before .before) in search needs
+
+mul-t17-3 : tie.Need-mul-t17-3 Inv-loop μ-loop
+mul-t17-3 c = let f = ready (c .before .before .before .before .before .before .before) in search needs
+
+element-set-from-events : tie.Need-element-set-from-events Inv-loop μ-loop
+element-set-from-events c = let f = ready (c .before .before .before .before .before .before .before) in search needs
+
+add-events : tie.Need-add-events Inv-loop μ-loop
+add-events c = let f = ready (c .before .before .before .before .before .before .before) in search needs
 
 add-i : tie.Need-add-i Inv-loop μ-loop
-add-i c = search needs
+add-i c =
+    let e = c .before .before .before .before .before .before .before in
+    let l = e .before .before .before .before in
+    let fits = l .before .before .before .before .fits .n in
+    let more = l .loop-test .taken in
+    search needs
 
 loop-less : tie.Need-loop-less Inv-loop μ-loop
 loop-less c = search needs
 
 loop-again : tie.Need-loop-again Inv-loop μ-loop
+unfolding pair
 loop-again c =
-    let q = c .before .before .before in
-    (search needs, turning-more (q .before .args .self .session) (q .before .args .n) (q .loop .i) (q .loop .k) (c .step .result) (c .before .before .loop-test .taken) (q .loop .inv .1) (c .before .if1 .left) (c .step .ensures))
+    let e = c .before .before .before .before .before .before .before in
+    let p = e .before .before in
+    let q = p .before .before .before in
+    let a = q .before .before .before .args in
+    let w = c .before in
+    let l = w .before .before in (
+      search needs,
+      rw
+          (c .fill-line .ensures, w .fill-of .ensures, w .before .less-left2 .ensures, l .less-left .ensures, l .before .smaller .ensures)
+          (going-more (a .self .session) (a .n) (q .loop .i) (q .loop .session) (q .loop .events) (p .next-pair .result) (p .before .before .loop-test .taken) (q .loop .inv .1) (p .next-pair .ensures) (ready e)),
+    )
 
 returns-2 : tie.Need-returns-2 Inv-loop μ-loop
 returns-2 c =
     let q = c .before in
-    turning-end (q .before .args .self .session) (q .before .args .n) (q .loop .i) (q .loop .k) (c .loop-test .left) (q .loop .inv .1)
+    let a = q .before .before .before .args in
+    going-end (a .self .session) (a .n) (q .loop .i) (q .loop .session) (q .loop .events) (c .loop-test .left) (q .loop .inv .1)
 
 pub turned-spec : {M : Type 1} → statement M
 turned-spec =
@@ -48,8 +135,28 @@ turned-spec =
     Inv-loop
     μ-loop
     loop-holds
+    next-pair-requires
+    both-requires
     returns
-    step-requires
+    mul-buy
+    array-copy-out-buy
+    mul-sell
+    array-copy-out-sell
+    smaller-requires
+    less-left-requires
+    mul-session
+    element-set-from-session
+    less-left-requires-2
+    mul-t17
+    element-set-from-session-2
+    fill-of-requires
+    mul-t17-2
+    element-set-from-session-3
+    add-session
+    fill-line-requires
+    mul-t17-3
+    element-set-from-events
+    add-events
     add-i
     loop-less
     loop-again
