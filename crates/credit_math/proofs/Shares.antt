@@ -36,9 +36,12 @@ unfolding share
 share-lt total sum q p h =
     lt-of-mul-lt-mul-right sum (omega (arith, div-mul-le-self (total * q) sum, mul-lt-mul-of-pos-right {m = total} {n = sum} {k = q} h p, mul-comm sum q))
 
--- a share of nothing is 0, and no share of a total within the sum is above its quantity
+-- a share of nothing is 0, the share of a quantity of 0 too, and no share of a total within the sum is above its quantity
 pub share-of-none : (total sum q : ℕ) → total ≡ 0 → 0 ≡ share total sum q
 share-of-none total sum q e = sym (ap (λ (n : ℕ). share n sum q) e ∙ share-none sum q)
+
+pub share-of-empty : (total sum q : ℕ) → q ≡ 0 → 0 ≡ share total sum q
+share-of-empty total sum q e = sym (ap (λ (n : ℕ). share total sum n) e ∙ share-zero total sum)
 
 pub share-le : (total sum q : ℕ) → total ≤ sum → share total sum q ≤ q
 unfolding share

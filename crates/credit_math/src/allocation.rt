@@ -292,6 +292,9 @@ fn floor_share(total: u64, qty: u64, sum_qty: Wide) -> u64
     if total == 0 {
         return 0;
     }
+    if qty == 0 {
+        return 0;
+    }
     let part = crate::div_round(wide::product(total, qty), sum_qty);
     part.quotient.lo
 }
