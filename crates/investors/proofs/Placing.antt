@@ -1,9 +1,9 @@
 -- Who stands at the places of the fills, as the code finds and stores it. Assumes nothing.
-use mathlib.Core.Path.{_≡_, sym, _∙_, ap, subst}
-use mathlib.Core.Bool.{Bool, false, not, _&&_}
+use mathlib.Core.Path.{_≡_, _∙_, subst}
+use mathlib.Core.Bool.{true, false, not, _&&_}
 use mathlib.Core.List.{List}
 use Prim.Native.Nat.{ℕ, _+_, _/_, _<_, _≤_, min}
-use native.Mathlib.Nat.{min-eq-left, min-le-right, le-refl, le-of-lt, lt-of-le-of-lt, le-antisymm, ne-of-lt}
+use native.Mathlib.Nat.{le-refl, le-of-lt, lt-of-le-of-lt, le-antisymm, ne-of-lt}
 use native.Mathlib.Omega.{arith}
 use lib.Dec.{eqb}
 use lib.ListN.{length, set}
@@ -15,7 +15,7 @@ use Rattle.laws.specs.Search.{first}
 use Rattle.laws.specs.Lists.{same}
 use Rattle.laws.specs.Bits.{isSet}
 use Rattle.laws.proofs.Sums.{count-same}
-use Rattle.laws.proofs.Search.{some-same}
+use Rattle.laws.proofs.Search.{first-found, first-end, some-same}
 use Rattle.credit_math.specs.Limits.{maxOrders}
 use Rattle.book.specs.Book.{orderIn, fillIn, noInvestor}
 use Rattle.book.specs.declared.Order.{Order}
@@ -25,29 +25,16 @@ use Rattle.investors.specs.Places.{partyOf, sameParty, walletAt, placeOf
 use Rattle.investors.specs.declared.participants.Party.{Party}
 use Rattle.investors.specs.declared.participants.Place.{Place}
 
--- the first order of a wallet: below the limit among the first n places, above it as at the limit
-module _ (orders : List Order) (n : ℕ) (key : List ℕ) where
-  pub first-order-is : n ≤ maxOrders → first (λ i. same (orderIn orders i .owner) key) n ≡ firstOrder orders n key
-  unfolding firstOrder
-  first-order-is h = rw (min-eq-left h)
+-- the party of a wallet, from the count m that is used: by its order i, with none of its before it, or by none
+module _ (orders : List Order) (n : ℕ) (key : List ℕ) (m : ℕ) (cut : m ≡ min n maxOrders) (i : ℕ) (none : first (λ j. same (orderIn orders j .owner) key) i ≡ i) where
+  pub party-ordered : i < m → same (orderIn orders i .owner) key ≡ true
+      → _≡_ {A = Party} (record { known = not (same (orderIn orders i .«investor_id») noInvestor); id = orderIn orders i .«investor_id»; wallet = key }) (partyOf orders n key)
+  unfolding partyOf firstOrder
+  party-ordered h t = rw (← cut, first-found _ i m none t h, lt-ltb i m h)
 
-  first-order-cut : firstOrder orders (min n maxOrders) key ≡ firstOrder orders n key
-  unfolding firstOrder
-  first-order-cut = rw (min-eq-left (min-le-right n maxOrders))
-
--- the party of a wallet, from the count m that is used and the first order i that is found
-module _ (orders : List Order) (n : ℕ) (key : List ℕ) (m i : ℕ) (cut : m ≡ min n maxOrders) (e : i ≡ firstOrder orders m key) where
-  found : firstOrder orders n key ≡ i
-  found = sym (e ∙ ap (λ k. firstOrder orders k key) cut ∙ first-order-cut orders n key)
-
-  pub party-ordered : (b : Bool) → i < m → b ≡ same (orderIn orders i .«investor_id») noInvestor
-      → _≡_ {A = Party} (record { known = not b; id = orderIn orders i .«investor_id»; wallet = key }) (partyOf orders n key)
-  unfolding partyOf
-  party-ordered b h f = rw (found, ← cut, lt-ltb i m h, f)
-
-  pub party-other : m ≤ i → _≡_ {A = Party} (record { known = false; id = noInvestor; wallet = key }) (partyOf orders n key)
-  unfolding partyOf
-  party-other h = rw (found, ← cut, le-ltb i m h)
+  pub party-other : i ≤ m → m ≤ i → _≡_ {A = Party} (record { known = false; id = noInvestor; wallet = key }) (partyOf orders n key)
+  unfolding partyOf firstOrder
+  party-other h g = rw (← cut, ← first-end _ m i none h g, le-ltb m m (le-refl m))
 
 -- a loop that stores the places: none, one more, all
 module _ {orders : List Order} {n : ℕ} {fills : List Fill} {skipped : ℕ} {places : List Place} where

@@ -17,6 +17,12 @@ pub const SELF_TRADE: u8 = 7;
 
 pub const INVESTOR_CAP_EXCEEDED: u8 = 8;
 
+// What an order itself brings to the checks.
+struct Own {
+    side: u8,
+    escrowed: u64,
+}
+
 // The exclusion of order `index`, whose investor is `id`; 0 where there is none. A count above the limit is read as the limit.
 pub fn investor_exclusion(
     orders: [Order; MAX_ORDERS],
@@ -28,38 +34,35 @@ pub fn investor_exclusion(
     ensures { λ r. ⌜ r ≡ investorExclusion orders «order_count» index id «max_cash» ⌝ }
 {
     let n = book::clear::at_most_all(order_count);
-    let side = side_of(orders, index);
-    if trades_itself(orders, n, index, id, side) {
+    let own = own_of(orders, index);
+    if trades_itself(orders, n, index, id, own.side) {
         return SELF_TRADE;
     }
-    if side != 0 {
+    if own.side != 0 {
         return 0;
     }
-    let cash = cash_of(orders, n, index, id);
+    let cash = cash_of(orders, n, index, id, own.escrowed);
     if wide::less(wide::of_word(max_cash), cash) {
         return INVESTOR_CAP_EXCEEDED;
     }
     0
 }
 
-fn side_of(orders: [Order; MAX_ORDERS], i: usize) -> u8
-    ensures { λ r. ⌜ r ≡ orderIn orders i .side ⌝ }
+// Both in one reading: each function that reads the orders at an index copies them.
+fn own_of(orders: [Order; MAX_ORDERS], i: usize) -> Own
+    ensures { λ r. ⌜ (r .side ≡ orderIn orders i .side) × (r .escrowed ≡ orderIn orders i .escrowed) ⌝ }
 {
     if i < MAX_ORDERS {
         let o = orders[i];
-        return o.side;
+        return Own {
+            side: o.side,
+            escrowed: o.escrowed,
+        };
     }
-    0
-}
-
-fn escrow_of(orders: [Order; MAX_ORDERS], i: usize) -> u64
-    ensures { λ r. ⌜ r ≡ orderIn orders i .escrowed ⌝ }
-{
-    if i < MAX_ORDERS {
-        let o = orders[i];
-        return o.escrowed;
+    Own {
+        side: 0,
+        escrowed: 0,
     }
-    0
 }
 
 // Whether the investor stands on the other side too.
@@ -110,12 +113,12 @@ fn is_other(o: Order, j: usize, index: usize, id: [u8; 16]) -> bool
     false
 }
 
-// The escrow of the order itself and of the investor's other buys.
-fn cash_of(orders: [Order; MAX_ORDERS], n: usize, index: usize, id: [u8; 16]) -> Wide
-    requires { ⌜ n ≤ maxOrders ⌝ }
+// The escrow of the order itself, `escrowed`, and of the investor's other buys.
+fn cash_of(orders: [Order; MAX_ORDERS], n: usize, index: usize, id: [u8; 16], escrowed: u64) -> Wide
+    requires { ⌜ (n ≤ maxOrders) × (escrowed ≡ orderIn orders index .escrowed) ⌝ }
     ensures { λ r. ⌜ value r ≡ cashOf orders n index id ⌝ }
 {
-    let mut sum = wide::of_word(escrow_of(orders, index));
+    let mut sum = wide::of_word(escrowed);
     let mut j = 0;
     while j < n {
         let o = orders[j];

@@ -5,10 +5,12 @@ ghost use Prim.Native.Nat.{ℕ, _+_, _*_, _/_, _%_, _<_, _≤_, min};
 ghost use lib.Dec.{ltb, leb, eqb};
 ghost use Rattle.laws.specs.Sums.{count};
 ghost use Rattle.laws.specs.Search.{some};
+ghost use Rattle.laws.specs.Lists.{same};
 ghost use Rattle.laws.specs.Bits.{isSet};
 ghost use Rattle.credit_math.specs.Limits.{maxOrders};
 ghost use Rattle.book.specs.Limits.{maxFills};
-ghost use Rattle.investors.specs.Participants.{firstOrder, distinctParticipants};
+ghost use Rattle.book.specs.Book.{noInvestor};
+ghost use Rattle.investors.specs.Participants.{distinctParticipants};
 ghost use Rattle.investors.specs.Places.{partyOf, sameParty, walletAt, placeIn, standsAt, isNew, Placed};
 use book::Fill;
 use book::MAX_FILLS;
@@ -127,21 +129,19 @@ fn wallet_at(f: Fill, k: usize) -> [u8; 32]
     f.seller
 }
 
-// Who a wallet counts as.
+// Who a wallet counts as: by its first order, where it has one.
 fn party_of(orders: [Order; MAX_ORDERS], order_count: usize, w: [u8; 32]) -> Party
     ensures { λ r. ⌜ r ≡ partyOf orders «order_count» w ⌝ }
 {
     let n = at_most_orders(order_count);
-    let i = first_order(orders, n, w);
-    if i < n {
+    let mut i = 0;
+    while i < n {
         let o = orders[i];
-        let id = o.investor_id;
-        let none = book::same_id(id, [0; 16]);
-        return Party {
-            known: !none,
-            id,
-            wallet: w,
-        };
+        let owner = o.owner;
+        if book::same_key(owner, w) {
+            return party_by(o, w);
+        }
+        i += 1;
     }
     Party {
         known: false,
@@ -156,21 +156,17 @@ fn at_most_orders(n: usize) -> usize
     if n < MAX_ORDERS { n } else { MAX_ORDERS }
 }
 
-// The first order of a wallet; n where it has none.
-fn first_order(orders: [Order; MAX_ORDERS], n: usize, w: [u8; 32]) -> usize
-    requires { ⌜ n ≤ maxOrders ⌝ }
-    ensures { λ r. ⌜ r ≡ firstOrder orders n w ⌝ }
+// Who a wallet counts as whose first order is o.
+fn party_by(o: Order, w: [u8; 32]) -> Party
+    ensures { λ r. ⌜ r ≡ record { known = not (same (o .«investor_id») noInvestor); id = o .«investor_id»; wallet = w } ⌝ }
 {
-    let mut i = 0;
-    while i < n {
-        let o = orders[i];
-        let owner = o.owner;
-        if book::same_key(owner, w) {
-            return i;
-        }
-        i += 1;
+    let id = o.investor_id;
+    let none = book::same_id(id, [0; 16]);
+    Party {
+        known: !none,
+        id,
+        wallet: w,
     }
-    n
 }
 
 fn count_new(places: [Place; MAX_PLACES], n: usize) -> u64
@@ -180,30 +176,31 @@ fn count_new(places: [Place; MAX_PLACES], n: usize) -> u64
     let mut new = 0;
     let mut k = 0;
     while k < n {
-        new += credit_math::allocation::unit(is_new(places, k));
+        let p = places[k];
+        new += credit_math::allocation::unit(is_new(places, k, p));
         k += 1;
     }
     new
 }
 
-// A place of a fill that moved, whose participant stands at no earlier such place.
-fn is_new(places: [Place; MAX_PLACES], k: usize) -> bool
+// Whether p, place k, is of a fill that moved, and its participant stands at no earlier such place. The caller reads p, so that no places are
+// copied for a fill that did not move.
+fn is_new(places: [Place; MAX_PLACES], k: usize, p: Place) -> bool
     requires { ⌜ k < 2 * maxFills ⌝ }
-    ensures { λ r. ⌜ r ≡ isNew (placeIn places) k ⌝ }
+    ensures { λ r. ⌜ r ≡ p .moved && not (some (standsAt (placeIn places) (p .who)) k) ⌝ }
 {
-    let p = places[k];
+    let who = p.who;
     if p.moved {
-        return !seen_before(places, k);
+        return !seen_before(places, k, who);
     }
     false
 }
 
-fn seen_before(places: [Place; MAX_PLACES], k: usize) -> bool
+// Whether a stands at a place before k, of a fill that moved.
+fn seen_before(places: [Place; MAX_PLACES], k: usize, a: Party) -> bool
     requires { ⌜ k < 2 * maxFills ⌝ }
-    ensures { λ r. ⌜ r ≡ some (standsAt (placeIn places) (placeIn places k .who)) k ⌝ }
+    ensures { λ r. ⌜ r ≡ some (standsAt (placeIn places) a) k ⌝ }
 {
-    let p = places[k];
-    let a = p.who;
     let mut j = 0;
     while j < k {
         let q = places[j];

@@ -16,20 +16,17 @@ use Rattle.investors.proofs.exclusion.cash_of.Statement.{statement}
 use Rattle.investors.proofs.exclusion.cash_of.Tie as tie
 
 abbrev Inv-loop : tie.InvT-loop
-Inv-loop n index id orders sum₀ j₀ sum j =
+Inv-loop n index id escrowed orders sum₀ j₀ sum j =
     (j ≤ n) × SummingFrom 64 (orderIn orders index .escrowed) (λ k. only (isOther orders n index id k && isBuy (orderIn orders k)) (orderIn orders k .escrowed)) j (value sum)
 
 abbrev μ-loop : tie.MeasureT-loop
-μ-loop n index id orders sum₀ j₀ sum j = n - j
-
-escrow-of-requires : tie.Need-escrow-of-requires Inv-loop μ-loop
-escrow-of-requires c κs = search needs
+μ-loop n index id escrowed orders sum₀ j₀ sum j = n - j
 
 of-word-requires : tie.Need-of-word-requires Inv-loop μ-loop
 of-word-requires c κs = search needs
 
 loop-holds : tie.Need-loop-holds Inv-loop μ-loop
-loop-holds c = (search needs, summing-from (c .of-word .ensures ∙ c .before .escrow-of .ensures) (omega (arith, c .before .escrow-of .ensures, c .before .escrow-of .ok)))
+loop-holds c = let e = c .before .pre .1 in (search needs, summing-from (c .of-word .ensures ∙ e) (omega (arith, e, c .before .fits .escrowed .fits)))
 
 mul-o : tie.Need-mul-o Inv-loop μ-loop
 mul-o c = search needs
@@ -58,7 +55,7 @@ loop-again c = (
 
 returns : tie.Need-returns Inv-loop μ-loop
 returns c =
-    let l = c .before .loop .inv in summed-from _ (l .1) (l .0) (c .loop-test .left) ∙ cash-is _ _ _ _ (c .before .before .before .before .pre)
+    let l = c .before .loop .inv in summed-from _ (l .1) (l .0) (c .loop-test .left) ∙ cash-is _ _ _ _ (c .before .before .before .pre .0)
 
 pub cash-of-spec : {M : Type 1} → statement M
 cash-of-spec =
@@ -66,7 +63,6 @@ cash-of-spec =
     (tie.spec
     Inv-loop
     μ-loop
-    escrow-of-requires
     of-word-requires
     loop-holds
     mul-o

@@ -12,16 +12,10 @@ use Rattle.investors.proofs.participants.seen_before.Statement.{stateme
 use Rattle.investors.proofs.participants.seen_before.Tie as tie
 
 abbrev Inv-loop : tie.InvT-loop
-Inv-loop k places a j₀ j = (j ≤ k) × (some (standsAt (placeIn places) a) j ≡ false)
+Inv-loop k a places j₀ j = (j ≤ k) × (some (standsAt (placeIn places) a) j ≡ false)
 
 abbrev μ-loop : tie.MeasureT-loop
-μ-loop k places a j₀ j = k - j
-
-mul-p : tie.Need-mul-p Inv-loop μ-loop
-mul-p c = search needs
-
-array-copy-out-p : tie.Need-array-copy-out-p Inv-loop μ-loop
-array-copy-out-p c = search needs
+μ-loop k a places j₀ j = k - j
 
 loop-holds : tie.Need-loop-holds Inv-loop μ-loop
 loop-holds c = (search needs, some-start _)
@@ -58,8 +52,6 @@ seen-before-spec =
     (tie.spec
     Inv-loop
     μ-loop
-    mul-p
-    array-copy-out-p
     loop-holds
     mul-q
     array-copy-out-q
