@@ -101,12 +101,23 @@ fn put_copied(out: &mut [u8], number: u64, record: Record) -> Written
 pub fn put_end(out: &mut [u8], accepted: bool, phase: u8, skipped: u32) -> Written
     ensures { λ r. ⌜ Writes (endLine accepted phase skipped) r (now (out .entry)) (now (out .exit)) ⌝ }
 {
+    if ROOM <= out.len() {
+        let len = put_last(out, accepted, phase, skipped);
+        return Written { refusal: 0, len };
+    }
+    put_end_copied(out, accepted, phase, skipped)
+}
+
+// The same by way of a buffer, where out may be shorter than the line.
+fn put_end_copied(out: &mut [u8], accepted: bool, phase: u8, skipped: u32) -> Written
+    ensures { λ r. ⌜ Writes (endLine accepted phase skipped) r (now (out .entry)) (now (out .exit)) ⌝ }
+{
     let mut text = [0u8; ROOM];
     let len = print_end(&mut text, accepted, phase, skipped);
     put_text(out, &text[..len])
 }
 
-// The same into a buffer that holds any record's lines: this and the next never refuse.
+// A record's lines into a buffer that holds any record's: this and the next never refuse.
 pub fn print_record(out: &mut [u8; ROOM], number: u64, record: Record) -> usize
     ensures { λ r. ⌜ Puts (recordLines number (said «record»)) 0 r (now (out .entry)) (now (out .exit)) × (r ≤ maxRecord) ⌝ }
 {

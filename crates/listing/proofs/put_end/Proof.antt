@@ -1,37 +1,31 @@
--- `listing::put_end` meets its contract: what was printed into the buffer is the text that is copied.
+-- `listing::put_end` meets its contract: in place where there is room for any record's lines, else by way of the buffer.
 -- Assumes nothing.
-use mathlib.Core.Path.{sym}
-use lib.Seq.{length-take-le}
 use borrow.Author.Needs.{needs}
-use Rattle.listing.proofs.Answers.{within, printed}
+use Rattle.listing.proofs.Answers.{in-place}
 use Rattle.listing.proofs.put_end.Statement.{statement}
 use Rattle.listing.proofs.put_end.Tie as tie
 
-print-end-requires : tie.Need-print-end-requires
-print-end-requires c κs = search needs
-
-array-share-prefix-text : tie.Need-array-share-prefix-text
-array-share-prefix-text c = within (c .before .print-end .ensures .0)
-
-slice-aggregate-put-text : tie.Need-slice-aggregate-put-text
-slice-aggregate-put-text c = sym (length-take-le _ _ (within (c .before .before .print-end .ensures .0)))
-
-put-text-requires : tie.Need-put-text-requires
-put-text-requires c κs = search needs
+put-last-requires : tie.Need-put-last-requires
+put-last-requires c κs = search needs
 
 same-length : tie.Need-same-length
 same-length c = search needs
 
 returns : tie.Need-returns
-returns c = rw (printed (c .before .before .before .before .before .print-end .ensures .0)) at (c .before .before .put-text .ensures)
+returns c =
+    let p = c .before .before .put-last .ensures in
+    in-place (p .0) (p .1) (c .before .before .before .before .if1 .taken)
+
+put-end-copied-requires : tie.Need-put-end-copied-requires
+put-end-copied-requires c κs = search needs
+
+same-length-2 : tie.Need-same-length-2
+same-length-2 c = search needs
+
+returns-2 : tie.Need-returns-2
+returns-2 c = search needs
 
 pub put-end-spec : {M : Type 1} → statement M
 put-end-spec =
     tie.close
-    (tie.spec
-    print-end-requires
-    array-share-prefix-text
-    slice-aggregate-put-text
-    put-text-requires
-    same-length
-    returns)
+    (tie.spec put-last-requires same-length returns put-end-copied-requires same-length-2 returns-2)
