@@ -9,16 +9,10 @@ use lib.Dec.{leb}
 use lib.ListN.{length}
 use Rattle.laws.proofs.Tests.{clash}
 use Rattle.book.specs.Limits.{maxFills}
-use Rattle.events.specs.declared.Events.{Events}
 use Rattle.events.specs.declared.Event.{Event}
-use Rattle.events.specs.declared.Event.the-variants.{FillAllocated, PhaseChanged}
-use Rattle.events.specs.Events.{pushed}
+use Rattle.events.specs.declared.Event.the-variants.{FillAllocated}
 use Rattle.auction_engine.specs.declared.Session.{Session}
-use Rattle.auction_engine.specs.declared.Answer.{Answer}
-use Rattle.auction_engine.specs.declared.matching.Crank.{Crank}
-use Rattle.auction_engine.specs.Session.{atPhase}
-use Rattle.auction_engine.specs.Matching.{buyAt, sellAt, due, dueQty, pair, one, crank, overfull, fillEvents, done, phaseAfter}
-use Rattle.auction_engine.specs.Cranks.{matchedBy}
+use Rattle.auction_engine.specs.Matching.{buyAt, sellAt, due, dueQty, pair, one, crank, overfull, fillEvents, phaseAfter}
 
 -- what a pairing keeps, one fill and any number of turns keep
 module _ {A : Type 0} (f : Session → A) (h : (s : Session) (b a q : ℕ) → f (pair s b a q) ≡ f s) where
@@ -42,10 +36,6 @@ one-orders s = one-keeps (λ t. t .«order_count») (λ t b a q. refl) s
 pub crank-orders : (n : ℕ) (s : Session) → crank n s .«order_count» ≡ s .«order_count»
 unfolding pair
 crank-orders n s = crank-keeps (λ t. t .«order_count») (λ t b a q. refl) n s
-
-pub crank-phase : (n : ℕ) (s : Session) → crank n s .phase ≡ s .phase
-unfolding pair
-crank-phase n s = crank-keeps (λ t. t .phase) (λ t b a q. refl) n s
 
 pub crank-phase-after : (n : ℕ) (s : Session) → phaseAfter (crank n s) ≡ phaseAfter s
 unfolding pair phaseAfter
@@ -118,14 +108,3 @@ events-fit (suc n) s h e = go (due s) refl (leb maxFills (s .«fill_count»)) re
         let g : one s .«fill_count» ≡ s .«fill_count» + 1 = due-count s d in
         omega (arith, ih (omega arith) (sym (free-full n s l) ∙ e))
     go true d true f ih = absurd (clash (overfull (suc n) s) (due-full s d n (leb-true maxFills (s .«fill_count») f)) e)
-
--- the answer as the code comes to it, by whether every lot is paired
-module _ (k : Crank) where
-  pub matched-done : (to : ℕ) (t : Session) (l : Events) → done (k .session) ≡ true → to ≡ phaseAfter (k .session) → t ≡ atPhase (k .session) to
-      → l ≡ pushed (k .events) (PhaseChanged (k .session .phase) to) → _≡_ {A = Answer} (record { refusal = 0; session = t; events = l }) (matchedBy k)
-  unfolding matchedBy
-  matched-done to t l d e f g = rw (g, f, e, d)
-
-  pub matched-more : done (k .session) ≡ false → _≡_ {A = Answer} (record { refusal = 0; session = k .session; events = k .events }) (matchedBy k)
-  unfolding matchedBy
-  matched-more d = rw d

@@ -11,4 +11,4 @@ pub mod Allocating
 pub mod Purchases
 pub mod Prints
 pub mod Records
-pub mod Early
+pub mod Changing

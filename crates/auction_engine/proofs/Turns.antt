@@ -1,13 +1,14 @@
 -- The loop of an allocate: with m turns left, what is left decides. Assumes nothing.
 use mathlib.Core.Path.{_≡_, refl, sym, _∙_, ap, subst}
-use mathlib.Core.Bool.{Bool, true, false, _&&_}
+use mathlib.Core.Bool.{Bool, true, false, not, _&&_}
 use mathlib.Core.List.{List, [], _∷_, _++_, append-nil, append-assoc}
 use Prim.Native.Nat.{ℕ, suc, _+_, _-_, _<_, _≤_, min}
 use native.Mathlib.Omega.{arith}
 use borrow.Author.Tests.{lt-ltb, ltb-true, ltb-false}
 use lib.Dec.{ltb}
 use lib.ListN.{length, set, length-append}
-use Rattle.laws.proofs.Tests.{clash, both}
+use Rattle.laws.specs.Checks.{unless}
+use Rattle.laws.proofs.Tests.{both}
 use Rattle.credit_math.specs.Limits.{maxOrders}
 use Rattle.book.specs.Limits.{maxFills}
 use Rattle.events.specs.declared.Events.{Events}
@@ -16,11 +17,10 @@ use Rattle.events.specs.declared.Event.the-variants.{FillAllocated}
 use Rattle.events.specs.Events.{maxEvents, lineOf, packed, pushed}
 use Rattle.events.proofs.Packed.{push-packed}
 use Rattle.auction_engine.specs.declared.Session.{Session}
-use Rattle.auction_engine.specs.declared.matching.Crank.{Crank}
 use Rattle.auction_engine.specs.declared.matching.Pair.{Pair}
 use Rattle.auction_engine.specs.Session.{left}
 use Rattle.auction_engine.specs.Matching.{buyAt, sellAt, dueAt, due, pair, one, crank, overfull, fillEvents}
-use Rattle.auction_engine.specs.Cranks.{begun, nextPair, Turned}
+use Rattle.auction_engine.specs.Cranks.{nextPair, Turned}
 use Rattle.auction_engine.proofs.Cranks.{dueEvent, one-orders, idle-crank, idle-full, idle-events, due-one, due-count, due-events, due-full, crank-more, free-full}
 
 -- n turns of s come to m turns of t, after the events v
@@ -34,18 +34,18 @@ pub record Going (s : Session) (n m : ℕ) (t : Session) (v : Events) : Type 0 w
   pub fills : t .«fill_count» ≤ maxFills
   pub orders : t .«order_count» ≤ maxOrders
 
-pub going-start : (n : ℕ) (k : Crank) → k ≡ begun (k .session) → k .session .«order_count» ≤ maxOrders → k .session .«fill_count» ≤ maxFills → Going (k .session) n (n - 0) (k .session) (k .events)
-going-start n k e h g =
+pub going-start : (n : ℕ) (s : Session) (v : Events) → v ≡ packed [] → s .«order_count» ≤ maxOrders → s .«fill_count» ≤ maxFills → Going s n (n - 0) s v
+going-start n s v e h g =
     let z : n ≡ n - 0 = omega arith in
     subst
-    (λ (m : ℕ). Going (k .session) n m (k .session) (k .events))
+    (λ (m : ℕ). Going s n m s v)
     z
     (record {
       full = refl;
       session = refl;
       made = [];
       lines = refl;
-      events = ap (λ (x : Crank). x .events) e;
+      events = e;
       counted = omega arith;
       fills = g;
       orders = h;
@@ -105,20 +105,25 @@ going-free s n m t v p g e f =
       sell = rw (found-sell t p e) (omega (arith, ltb-true (sellAt t) (t .«order_count») (d .1), g .orders));
     }
 
+-- the number that turns come to, by whether one fill was too many
+abbrev full-number : Bool → ℕ
+full-number x = unless (not x) 18
+
 -- no fill is due, or no place is free
 module _ (s : Session) (n m : ℕ) (t : Session) (v : Events) (g : Going s n (suc m) t v) where
-  stopped : (x : Bool) → due t ≡ x → (x && ltb (t .«fill_count») maxFills) ≡ false → Turned s n (record { full = x; session = t; events = v })
+  stopped : (x : Bool) → due t ≡ x → (x && ltb (t .«fill_count») maxFills) ≡ false → Turned s n (record { refusal = unless (not x) 18; session = t; events = v })
+  unfolding unless
   stopped false d f =
       record {
-        full = sym (g .full ∙ idle-full t d (suc m));
+        refusal = ap full-number (sym (g .full ∙ idle-full t d (suc m)));
         session = λ _. sym (g .session ∙ idle-crank t d (suc m));
         events = λ _. g .events ∙ ap packed (sym (g .lines ∙ ap (λ (l : List Event). g .made ++ l) (idle-events t d (suc m)) ∙ append-nil (g .made)));
       }
   stopped true d f =
       record {
-        full = sym (g .full ∙ due-full t d m (ltb-false (t .«fill_count») maxFills f));
-        session = λ c. absurd (clash true refl c);
-        events = λ c. absurd (clash true refl c);
+        refusal = ap full-number (sym (g .full ∙ due-full t d m (ltb-false (t .«fill_count») maxFills f)));
+        session = λ c. absurd (omega (arith, c));
+        events = λ c. absurd (omega (arith, c));
       }
 
 -- one event more, where there is room
@@ -131,7 +136,7 @@ module _ (s : Session) (n i : ℕ) (t : Session) (v : Events) (p : Pair) (h : i 
   one-left : Going s n (suc (n - (i + 1))) t v
   one-left = let m : n - i ≡ suc (n - (i + 1)) = omega arith in subst (λ (x : ℕ). Going s n x t v) m g
 
-  pub going-stops : (p .due && ltb (t .«fill_count») maxFills) ≡ false → Turned s n (record { full = p .due; session = t; events = v })
+  pub going-stops : (p .due && ltb (t .«fill_count») maxFills) ≡ false → Turned s n (record { refusal = unless (not (p .due)) 18; session = t; events = v })
   going-stops f = stopped s n (n - (i + 1)) t v one-left (p .due) (sym (found-due t p e)) f
 
   -- the fill and its event are written in place
@@ -145,13 +150,13 @@ module _ (s : Session) (n i : ℕ) (t : Session) (v : Events) (p : Pair) (h : i 
       (found-buy t p e, found-sell t p e, ← due-one t d)
       (subst (Going s n (n - (i + 1)) (one t)) (sym (room-pushed v (dueEvent t) (f .event))) (going-fills s n (n - (i + 1)) t v one-left d (f .fill)))
 
-pub going-end : (s : Session) (n i : ℕ) (t : Session) (v : Events) → n ≤ i → Going s n (n - i) t v → Turned s n (record { full = false; session = t; events = v })
-unfolding crank overfull fillEvents
+pub going-end : (s : Session) (n i : ℕ) (t : Session) (v : Events) → n ≤ i → Going s n (n - i) t v → Turned s n (record { refusal = 0; session = t; events = v })
+unfolding unless crank overfull fillEvents
 going-end s n i t v h g =
     let m : n - i ≡ 0 = omega arith in
     let z : Going s n 0 t v = subst (λ (x : ℕ). Going s n x t v) m g in
     record {
-      full = sym (z .full);
+      refusal = ap full-number (sym (z .full));
       session = λ _. sym (z .session);
       events = λ _. z .events ∙ ap packed (sym (z .lines ∙ append-nil (z .made)));
     }

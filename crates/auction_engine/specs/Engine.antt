@@ -11,8 +11,8 @@ use Rattle.auction_engine.specs.declared.Answer.{Answer}
 use Rattle.auction_engine.specs.declared.CallRecord.{CallRecord}
 use Rattle.auction_engine.specs.Call.{Call, screen, clear, allocate, exercise, close, settle, skip, finish, expire, limitsRefusal, fieldsRefusal, argumentsRefusal}
 use Rattle.auction_engine.specs.Screening.{screenRefusal, screenEffect, screenEvents}
-use Rattle.auction_engine.specs.Clearing.{clearRefusal, clearChecks, clearEffect, clearEvents}
-use Rattle.auction_engine.specs.Matching.{allocateChecks, allocateRefusal, allocateEffect, allocateEvents}
+use Rattle.auction_engine.specs.Clearing.{clearRefusal, clearEffect, clearEvents}
+use Rattle.auction_engine.specs.Matching.{allocateRefusal, allocateEffect, allocateEvents}
 use Rattle.auction_engine.specs.Rofr.{exerciseRefusal, exerciseEffect, exerciseEvents, closeRefusal, closeEffect, closeEvents}
 use Rattle.auction_engine.specs.Settlement.{settleRefusal, settleEffect, settleEvents, skipRefusal, skipEffect, skipEvents, finishRefusal, finishEffect, finishEvents, expireRefusal, expireEffect, expireEvents}
 
@@ -83,19 +83,3 @@ callOf r =
 -- what a call record answers: a kind above 8 is an argument outside its values
 unfoldable pub applied : Session → CallRecord → Answer
 applied s r = cond (leb (r .kind) 8) (answer s (callOf r)) (refusedBy s 4)
-
--- what refuses a call before it is worked out: all of its checks, but a clear's 17 and an allocate's 18, which working it out tells
-unfoldable pub earlyRefusal : Session → Call → ℕ
-earlyRefusal s (screen now i side verdict hasId id) = refusal s (screen now i side verdict hasId id)
-earlyRefusal s (clear now) = limitsRefusal s then fieldsRefusal s then clearChecks s now
-earlyRefusal s (allocate now n) = allocateChecks s
-earlyRefusal s (exercise now issuer i q) = refusal s (exercise now issuer i q)
-earlyRefusal s (close now caller) = refusal s (close now caller)
-earlyRefusal s (settle i) = refusal s (settle i)
-earlyRefusal s (skip now i reason) = refusal s (skip now i reason)
-earlyRefusal s (finish now) = refusal s (finish now)
-earlyRefusal s (expire now) = refusal s (expire now)
-
--- the same of a call record
-unfoldable pub earlyApplied : Session → CallRecord → ℕ
-earlyApplied s r = cond (leb (r .kind) 8) (earlyRefusal s (callOf r)) 4

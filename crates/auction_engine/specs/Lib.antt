@@ -8,4 +8,5 @@ pub mod Cranks
 pub mod Rofr
 pub mod Settlement
 pub mod Engine
+pub mod Changes
 pub mod Opening

@@ -1,17 +1,15 @@
 // The call `clear`: the price and the lots of the live orders, or why the session fails.
 ghost use mathlib.Core.Path.{_≡_};
-ghost use mathlib.Core.Bool.{Bool, true, false, cond, not, _||_};
-ghost use Prim.Native.Nat.{ℕ, _<_, _≤_};
-ghost use lib.Dec.{eqb};
+ghost use mathlib.Core.Bool.{not, _||_};
+ghost use Prim.Native.Nat.{_≤_};
 ghost use Rattle.laws.specs.Search.{every};
-ghost use Rattle.laws.specs.Checks.{unless, _then_};
+ghost use Rattle.laws.specs.Checks.{_then_};
 ghost use Rattle.credit_math.specs.Limits.{maxOrders};
 ghost use Rattle.book.specs.Book.{orderIn};
 ghost use Rattle.events.specs.Events.{packed};
 ghost use Rattle.auction_engine.specs.Call as call;
-ghost use Rattle.auction_engine.specs.Call.{limitsRefusal, fieldsRefusal, inWindow, admits};
-ghost use Rattle.auction_engine.specs.Session.{orderAt};
-ghost use Rattle.auction_engine.specs.Clearing.{clearChecks, outcome, withLot, withLots, clearedBy, clearLines};
+ghost use Rattle.auction_engine.specs.Call.{limitsRefusal, fieldsRefusal};
+ghost use Rattle.auction_engine.specs.Clearing.{clearChecks, withLot, clearedBy, clearLines};
 ghost use Rattle.auction_engine.specs.Engine.{answer};
 use crate::Answer;
 use crate::Cleared;
@@ -39,13 +37,7 @@ impl Session {
         if found.refusal != 0 {
             return Answer::refused(self, found.refusal);
         }
-        let events = self.clear_events(found);
-        let session = self.cleared_by(found);
-        Answer {
-            refusal: 0,
-            session,
-            events,
-        }
+        self.cleared_by(found)
     }
 
     // All checks but the last, 17, which the outcome has.
@@ -69,30 +61,44 @@ impl Session {
         first_of(window, first_of(phase, pending))
     }
 
-    // A price: its figures and lots, in Allocating; a failure: Failed.
-    fn cleared_by(self, found: Outcome) -> Session
+    // A price: its figures and lots, in Allocating; a failure: Failed. Both are written in place: a session is large.
+    fn cleared_by(self, found: Outcome) -> Answer
         requires { ⌜ self .«order_count» ≤ maxOrders ⌝ }
-        ensures { λ r. ⌜ r ≡ clearedBy self found ⌝ }
+        ensures { λ r. ⌜ r ≡ record { refusal = 0; session = clearedBy self found; events = packed (clearLines self found) } ⌝ }
     {
+        let events = self.clear_events(found);
+        let mut session = self;
         if found.failed != 0 {
-            return self.at_phase(crate::FAILED);
+            session.phase = crate::FAILED;
+            return Answer {
+                refusal: 0,
+                session,
+                events,
+            };
+        }
+        let lots = found.lots;
+        let n = self.order_count;
+        let mut i = 0;
+        while i < n {
+            let o = session.orders[i];
+            session.orders[i] = with_lot(o, lots[i]);
+            i += 1;
         }
         let p = self.params;
         let g = self.given;
-        let orders = self.orders;
-        let lots = found.lots;
-        let allotted = with_lots(orders, self.order_count, lots);
         let cleared = Cleared {
             clear_price: found.price,
             cleared_volume: found.volume,
             reserve_price: book::clear::floor_of(p, g),
             reference_mark: g.reference,
         };
-        let mut next = self;
-        next.cleared = cleared;
-        next.orders = allotted;
-        next.phase = crate::ALLOCATING;
-        next
+        session.cleared = cleared;
+        session.phase = crate::ALLOCATING;
+        Answer {
+            refusal: 0,
+            session,
+            events,
+        }
     }
 
     fn clear_events(self, found: Outcome) -> Events
@@ -140,25 +146,6 @@ fn is_ready(o: Order) -> bool
     ensures { λ r. ⌜ r ≡ (not (o .revealed) || o .screened) ⌝ }
 {
     if o.revealed { o.screened } else { true }
-}
-
-// The first n orders with their lots.
-fn with_lots(
-    orders: [Order; Session::MAX_ORDERS],
-    n: usize,
-    lots: [u64; Session::MAX_ORDERS],
-) -> [Order; Session::MAX_ORDERS]
-    requires { ⌜ n ≤ maxOrders ⌝ }
-    ensures { λ r. ⌜ r ≡ withLots orders lots n ⌝ }
-{
-    let mut out = orders;
-    let mut i = 0;
-    while i < n {
-        let o = orders[i];
-        out[i] = with_lot(o, lots[i]);
-        i += 1;
-    }
-    out
 }
 
 fn with_lot(o: Order, lot: u64) -> Order

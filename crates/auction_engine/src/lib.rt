@@ -11,15 +11,16 @@ ghost use Rattle.laws.specs.Checks.{unless, _then_};
 ghost use Rattle.clock.specs.Clock.{sumFits};
 ghost use Rattle.credit_math.specs.Limits.{maxOrders};
 ghost use Rattle.book.specs.Book.{orderIn};
-ghost use Rattle.auction_engine.specs.Session.{fresh, atPhase};
+ghost use Rattle.auction_engine.specs.Session.{fresh};
 ghost use Rattle.auction_engine.specs.Call.{admits, limitsRefusal, fieldsRefusal, argumentsRefusal, inWindow};
-ghost use Rattle.auction_engine.specs.Engine.{refusedBy, callOf, applied, earlyApplied};
+ghost use Rattle.auction_engine.specs.Engine.{refusedBy, callOf, applied};
 use book::Fill;
 use book::Given;
 use book::Order;
 use book::Params;
 use events::Events;
 
+pub mod changes;
 pub mod clearing;
 pub mod matching;
 pub mod rofr;
@@ -162,34 +163,6 @@ pub struct CallRecord {
 }
 
 impl Session {
-    // What refuses the call before it is worked out: it hands back no session, so whoever holds one keeps it where it is.
-    pub fn early_refusal(self, call: CallRecord) -> u8
-        ensures { λ r. ⌜ r ≡ earlyApplied self call ⌝ }
-    {
-        let kind = call.kind;
-        let id = call.id;
-        let wallet = call.wallet;
-        match kind {
-            0 => self.screen_refusal(
-                call.now,
-                call.order,
-                call.side,
-                call.verdict,
-                call.has_id,
-                id,
-            ),
-            1 => self.clear_refusal(call.now),
-            2 => self.allocate_refusal(),
-            3 => self.exercise_refusal(call.now, wallet, call.fill, call.qty),
-            4 => self.close_refusal(call.now, wallet),
-            5 => self.settle_refusal(call.fill),
-            6 => self.skip_refusal(call.now, call.fill, call.reason),
-            7 => self.finish_refusal(call.now),
-            8 => self.expire_refusal(call.now),
-            _ => book::error::BAD_FIELD,
-        }
-    }
-
     // The call that a record says. A kind above 8 is refused with 4.
     pub fn apply(self, call: CallRecord) -> Answer
         ensures { λ r. ⌜ r ≡ applied self call ⌝ }
@@ -329,13 +302,6 @@ impl Session {
             clock::not_before(now, p.reveal_end),
             clock::before(now, p.settle_deadline),
         )
-    }
-
-    fn at_phase(mut self, to: u8) -> Session
-        ensures { λ r. ⌜ r ≡ atPhase self to ⌝ }
-    {
-        self.phase = to;
-        self
     }
 }
 

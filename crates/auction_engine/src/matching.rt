@@ -1,8 +1,9 @@
 // The call `allocate`: buyers and sellers with something left are paired, in book order, at most as often as the call allows.
 ghost use mathlib.Core.Path.{_≡_};
-ghost use Prim.Native.Nat.{_<_, _≤_, min};
-ghost use lib.Dec.{eqb};
-ghost use Rattle.laws.specs.Search.{first, every};
+ghost use mathlib.Core.Bool.{cond};
+ghost use Prim.Native.Nat.{_+_, _<_, _≤_, min};
+ghost use lib.Dec.{ltb, eqb};
+ghost use Rattle.laws.specs.Search.{every};
 ghost use Rattle.credit_math.specs.Limits.{maxOrders};
 ghost use Rattle.book.specs.Limits.{maxFills};
 ghost use Rattle.book.specs.Book.{orderIn};
@@ -10,7 +11,7 @@ ghost use Rattle.events.specs.Events.{lineOf};
 ghost use Rattle.events.specs.declared.Event.the-variants.{FillAllocated};
 ghost use Rattle.auction_engine.specs.Call as call;
 ghost use Rattle.auction_engine.specs.Matching.{allocateChecks, lessLeft, dueOn, phaseAfter};
-ghost use Rattle.auction_engine.specs.Cranks.{begun, nextPair, fillOf, matchedBy, Turned};
+ghost use Rattle.auction_engine.specs.Cranks.{nextPair, fillOf, Turned};
 ghost use Rattle.auction_engine.specs.Engine.{answer};
 use crate::Answer;
 use crate::Session;
@@ -29,11 +30,23 @@ impl Session {
         if refusal != 0 {
             return Answer::refused(self, refusal);
         }
-        let k = Crank::begin(self).turned(max_fills);
-        if k.full {
-            return Answer::refused(self, book::error::BOOK_FULL);
+        let mut r = self.turned(max_fills);
+        if r.refusal != 0 {
+            return Answer::refused(self, r.refusal);
         }
-        k.matched()
+        let orders = r.session.orders;
+        if !none_left(orders, r.session.order_count) {
+            return r;
+        }
+        let to = self.phase_after();
+        let fills = r.events;
+        let events = fills.push(Event::PhaseChanged {
+            from: self.phase,
+            to,
+        });
+        r.session.phase = to;
+        r.events = events;
+        r
     }
 
     // All checks but the last, 18, which the fills have.
@@ -46,6 +59,45 @@ impl Session {
             book::error::WRONG_PHASE,
         );
         crate::first_of(bad, phase)
+    }
+
+    // At most n fills, each written in place: a session is too large to copy for each. 18 where one more is due and no place free.
+    fn turned(self, n: u8) -> Answer
+        requires { ⌜ (self .«order_count» ≤ maxOrders) × (self .«fill_count» ≤ maxFills) ⌝ }
+        ensures { λ r. ⌜ Turned self n r ⌝ }
+    {
+        let mut session = self;
+        let mut events = Events::none();
+        let mut i: u8 = 0;
+        while i < n {
+            let next = next_pair(session.orders, session.order_count);
+            let at = session.fill_count;
+            if !crate::both(next.due, at < Session::MAX_FILLS) {
+                return Answer {
+                    refusal: crate::unless(!next.due, book::error::BOOK_FULL),
+                    session,
+                    events,
+                };
+            }
+            let b = next.buy;
+            let a = next.sell;
+            let buy = session.orders[b];
+            let sell = session.orders[a];
+            let qty = smaller(buy.alloc_left, sell.alloc_left);
+            session.orders[b] = less_left(buy, qty);
+            session.orders[a] = less_left(sell, qty);
+            session.fills[at] = fill_of(buy, sell, qty);
+            session.fill_count = at + 1;
+            let end = events.count;
+            events.lines[end] = fill_line(at, b, a, qty);
+            events.count = end + 1;
+            i += 1;
+        }
+        Answer {
+            refusal: 0,
+            session,
+            events,
+        }
     }
 
     // IssuerRofr with an authority, else Settling.
@@ -61,91 +113,6 @@ impl Session {
     }
 }
 
-// A session after the fills of an allocate; full where one more was due and no place free.
-pub struct Crank {
-    pub full: bool,
-    pub session: Session,
-    pub events: Events,
-}
-
-impl Crank {
-    fn begin(session: Session) -> Self
-        ensures { λ r. ⌜ r ≡ begun session ⌝ }
-    {
-        let events = Events::none();
-        Crank {
-            full: false,
-            session,
-            events,
-        }
-    }
-
-    // At most n fills, each written in place: a session is too large to copy for each.
-    fn turned(self, n: u8) -> Self
-        requires { ⌜ (self ≡ begun (self .session)) × (self .session .«order_count» ≤ maxOrders) × (self .session .«fill_count» ≤ maxFills) ⌝ }
-        ensures { λ r. ⌜ Turned (self .session) n r ⌝ }
-    {
-        let mut session = self.session;
-        let mut events = self.events;
-        let mut i: u8 = 0;
-        while i < n {
-            let orders = session.orders;
-            let next = next_pair(orders, session.order_count);
-            let at = session.fill_count;
-            if !crate::both(next.due, at < Session::MAX_FILLS) {
-                return Crank {
-                    full: next.due,
-                    session,
-                    events,
-                };
-            }
-            let b = next.buy;
-            let a = next.sell;
-            let buy = orders[b];
-            let sell = orders[a];
-            let qty = smaller(buy.alloc_left, sell.alloc_left);
-            session.orders[b] = less_left(buy, qty);
-            session.orders[a] = less_left(sell, qty);
-            session.fills[at] = fill_of(buy, sell, qty);
-            session.fill_count = at + 1;
-            let end = events.count;
-            events.lines[end] = fill_line(at, b, a, qty);
-            events.count = end + 1;
-            i += 1;
-        }
-        Crank {
-            full: false,
-            session,
-            events,
-        }
-    }
-
-    // The answer of an allocate that was not refused.
-    fn matched(self) -> Answer
-        requires { ⌜ self .session .«order_count» ≤ maxOrders ⌝ }
-        ensures { λ r. ⌜ r ≡ matchedBy self ⌝ }
-    {
-        let s = self.session;
-        let events = self.events;
-        let orders = s.orders;
-        if none_left(orders, s.order_count) {
-            let to = s.phase_after();
-            let more = events.push(Event::PhaseChanged { from: s.phase, to });
-            let session = s.at_phase(to);
-            return Answer {
-                refusal: 0,
-                session,
-                events: more,
-            };
-        }
-        Answer {
-            refusal: 0,
-            session: s,
-            events,
-        }
-    }
-}
-
 // The two orders of the next fill; none is due where a side has nothing left.
 struct Pair {
     due: bool,
@@ -153,30 +120,36 @@ struct Pair {
     sell: usize,
 }
 
+// One pass for both sides, since every function that is handed the orders copies them.
 fn next_pair(orders: [Order; Session::MAX_ORDERS], n: usize) -> Pair
     requires { ⌜ n ≤ maxOrders ⌝ }
     ensures { λ r. ⌜ r ≡ nextPair orders n ⌝ }
 {
-    let buy = first_left(orders, n, 0);
-    let sell = first_left(orders, n, 1);
+    let mut buy = 0;
+    let mut sell = 0;
+    let mut i = 0;
+    while i < n {
+        let o = orders[i];
+        buy = first_due(buy, is_due(o, 0), i);
+        sell = first_due(sell, is_due(o, 1), i);
+        i += 1;
+    }
     let due = crate::both(buy < n, sell < n);
     Pair { due, buy, sell }
 }
 
-// The first order of a side with something left; n where there is none.
-fn first_left(orders: [Order; Session::MAX_ORDERS], n: usize, side: u8) -> usize
-    requires { ⌜ n ≤ maxOrders ⌝ }
-    ensures { λ r. ⌜ r ≡ first (λ i. dueOn side (orderIn orders i)) n ⌝ }
+// The first due order of the places up to i, from that of the places before i; the number of places where there is none.
+fn first_due(found: usize, due: bool, i: usize) -> usize
+    requires { ⌜ i < maxOrders ⌝ }
+    ensures { λ r. ⌜ r ≡ cond (ltb found i) found (cond due i (i + 1)) ⌝ }
 {
-    let mut i = 0;
-    while i < n {
-        let o = orders[i];
-        if is_due(o, side) {
-            return i;
-        }
-        i += 1;
+    if found < i {
+        return found;
     }
-    n
+    if due {
+        return i;
+    }
+    i + 1
 }
 
 fn is_due(o: Order, side: u8) -> bool

@@ -11,13 +11,16 @@ ghost use Rattle.auction_engine.specs.Session.{fillAt, rofrEnd};
 ghost use Rattle.auction_engine.specs.Call as call;
 ghost use Rattle.auction_engine.specs.Rofr.{exerciseEffect};
 ghost use Rattle.auction_engine.specs.Engine.{refusal, answer};
+ghost use Rattle.auction_engine.specs.Changes.{changeOf};
 use crate::Answer;
 use crate::Session;
+use crate::changes::Change;
 use crate::first_of;
 use crate::unless;
 use book::Fill;
 use events::Event;
 use events::Events;
+use events::Few;
 
 impl Session {
     // The issuer takes `qty` of a fill at the clearing price, settled at once.
@@ -134,22 +137,23 @@ impl Session {
     pub fn close_rofr(self, now: i64, caller: [u8; 32]) -> Answer
         ensures { λ r. ⌜ r ≡ answer self (call.close now caller) ⌝ }
     {
+        let c = self.close_change(now, caller);
+        self.made(c)
+    }
+
+    pub fn close_change(self, now: i64, caller: [u8; 32]) -> Change
+        ensures { λ r. ⌜ r ≡ changeOf self (call.close now caller) ⌝ }
+    {
         let refusal = self.close_refusal(now, caller);
         if refusal != 0 {
-            return Answer::refused(self, refusal);
+            return self.unchanged(refusal);
         }
-        let none = Events::none();
-        let closed = none.push(Event::RofrClosed(self.rofr_qty));
-        let events = closed.push(Event::PhaseChanged {
+        let closed = Event::RofrClosed(self.rofr_qty);
+        let moved = Event::PhaseChanged {
             from: self.phase,
             to: crate::SETTLING,
-        });
-        let session = self.at_phase(crate::SETTLING);
-        Answer {
-            refusal: 0,
-            session,
-            events,
-        }
+        };
+        self.phase_change(crate::SETTLING, Few::two(closed, moved))
     }
 
     pub fn close_refusal(self, now: i64, caller: [u8; 32]) -> u8

@@ -3,24 +3,25 @@ ghost use mathlib.Core.Path.{_≡_};
 ghost use mathlib.Core.Bool.{Bool, true, false, cond, not, _&&_, _||_};
 ghost use Prim.Native.Nat.{ℕ, _<_, _≤_};
 ghost use lib.Dec.{ltb, leb, eqb};
-ghost use lib.ListN.{set};
 ghost use Rattle.laws.specs.Lists.{same};
 ghost use Rattle.laws.specs.Checks.{unless, _then_};
 ghost use Rattle.credit_math.specs.Limits.{maxOrders};
 ghost use Rattle.book.specs.Book.{noInvestor};
-ghost use Rattle.events.specs.Events.{packed};
-ghost use Rattle.auction_engine.specs.Session.{orderAt, remake};
+ghost use Rattle.events.specs.Events.{few};
+ghost use Rattle.auction_engine.specs.Session.{orderAt};
 ghost use Rattle.auction_engine.specs.Call.{argumentsRefusal};
 ghost use Rattle.auction_engine.specs.Screening.{exclusionOf, screenedAs, screenLines};
 ghost use Rattle.auction_engine.specs.Engine.{refusal, answer};
+ghost use Rattle.auction_engine.specs.Changes.{changeOf};
 ghost use Rattle.auction_engine.specs.Call as call;
 use crate::Answer;
 use crate::Session;
+use crate::changes::Change;
 use crate::first_of;
 use crate::unless;
 use book::Order;
 use events::Event;
-use events::Events;
+use events::Few;
 
 impl Session {
     // An order's gate verdict, and the id of its investor where one is given.
@@ -35,22 +36,11 @@ impl Session {
     ) -> Answer
         ensures { λ r. ⌜ r ≡ answer self (call.screen now order side verdict «has_id» id) ⌝ }
     {
-        let refusal = self.screen_refusal(now, order, side, verdict, has_id, id);
-        if refusal != 0 {
-            return Answer::refused(self, refusal);
-        }
-        let i = order as usize;
-        let exclusion = self.exclusion_of(i, verdict, has_id, id);
-        let events = screen_events(self.phase, order, exclusion);
-        let session = self.with_screened(i, exclusion, has_id, id);
-        Answer {
-            refusal: 0,
-            session,
-            events,
-        }
+        let c = self.screen_change(now, order, side, verdict, has_id, id);
+        self.made(c)
     }
 
-    pub fn screen_refusal(
+    pub fn screen_change(
         self,
         now: i64,
         order: u8,
@@ -58,7 +48,45 @@ impl Session {
         verdict: u8,
         has_id: bool,
         id: [u8; 16],
+    ) -> Change
+        ensures { λ r. ⌜ r ≡ changeOf self (call.screen now order side verdict «has_id» id) ⌝ }
+    {
+        let i = order as usize;
+        let o = self.order_at(i);
+        let refusal = self.screen_refusal(now, order, side, verdict, has_id, id, o);
+        if refusal != 0 {
+            return self.unchanged(refusal);
+        }
+        let exclusion = self.exclusion_of(i, verdict, has_id, id);
+        let mut c = self.standing(screen_events(self.phase, order, exclusion));
+        c.phase = crate::CLEARING;
+        c.order_at = i;
+        c.order = as_screened(o, exclusion, has_id, id);
+        c
+    }
+
+    // The order at a place; any, where the array has no such place.
+    fn order_at(self, i: usize) -> Order
+        ensures { λ r. ⌜ (i < maxOrders → r ≡ orderAt self i) ⌝ }
+    {
+        let orders = self.orders;
+        if i < Session::MAX_ORDERS {
+            return orders[i];
+        }
+        orders[0]
+    }
+
+    fn screen_refusal(
+        self,
+        now: i64,
+        order: u8,
+        side: u8,
+        verdict: u8,
+        has_id: bool,
+        id: [u8; 16],
+        o: Order,
     ) -> u8
+        requires { ⌜ (order < maxOrders → o ≡ orderAt self order) ⌝ }
         ensures { λ r. ⌜ r ≡ refusal self (call.screen now order side verdict «has_id» id) ⌝ }
     {
         let bad = self.checked();
@@ -71,13 +99,13 @@ impl Session {
             crate::admits(self.phase, crate::SCREEN),
             book::error::WRONG_PHASE,
         );
-        let no_order = self.order_refusal(order as usize, side);
+        let no_order = self.order_refusal(order as usize, side, o);
         first_of(argument, first_of(window, first_of(phase, no_order)))
     }
 
     // 12 no such order; 13 side; 14 not revealed; 15 screened.
-    fn order_refusal(self, i: usize, side: u8) -> u8
-        requires { ⌜ self .«order_count» ≤ maxOrders ⌝ }
+    fn order_refusal(self, i: usize, side: u8, o: Order) -> u8
+        requires { ⌜ (self .«order_count» ≤ maxOrders) × (i < maxOrders → o ≡ orderAt self i) ⌝ }
         ensures { λ r. ⌜ r ≡ unless (ltb i (self .«order_count»)) 12
             then unless (eqb (orderAt self i .side) side) 13
             then unless (orderAt self i .revealed) 14
@@ -86,8 +114,6 @@ impl Session {
         if self.order_count <= i {
             return book::error::NO_ORDER;
         }
-        let orders = self.orders;
-        let o = orders[i];
         let other = unless(o.side == side, book::error::WRONG_SIDE);
         let hidden = unless(o.revealed, book::error::NOT_REVEALED);
         let again = unless(!o.screened, book::error::ALREADY_SCREENED);
@@ -113,21 +139,6 @@ impl Session {
             );
         }
         0
-    }
-
-    fn with_screened(self, i: usize, exclusion: u8, has_id: bool, id: [u8; 16]) -> Session
-        requires { ⌜ i < maxOrders ⌝ }
-        ensures { λ r. ⌜ r ≡ remake self (self .cleared) 7 (self .«rofr_qty») (self .«fills_settled») (self .«skipped_fills»)
-            (set (self .orders) i (screenedAs (orderAt self i) exclusion «has_id» id)) (self .fills) (self .«fill_count») ⌝ }
-    {
-        let mut orders = self.orders;
-        let o = orders[i];
-        let screened = as_screened(o, exclusion, has_id, id);
-        orders[i] = screened;
-        let mut next = self;
-        next.orders = orders;
-        next.phase = crate::CLEARING;
-        next
     }
 }
 
@@ -163,16 +174,16 @@ fn as_screened(o: Order, exclusion: u8, has_id: bool, id: [u8; 16]) -> Order
 }
 
 // The change of phase on the first screen, then the screen.
-fn screen_events(from: u8, order: u8, exclusion: u8) -> Events
-    ensures { λ r. ⌜ r ≡ packed (screenLines from order exclusion) ⌝ }
+fn screen_events(from: u8, order: u8, exclusion: u8) -> Few
+    ensures { λ r. ⌜ r ≡ few (screenLines from order exclusion) ⌝ }
 {
-    let none = Events::none();
+    let screened = Event::OrderScreened { order, exclusion };
     if from == crate::CLEARING {
-        return none.push(Event::OrderScreened { order, exclusion });
+        return Few::one(screened);
     }
-    let moved = none.push(Event::PhaseChanged {
+    let moved = Event::PhaseChanged {
         from,
         to: crate::CLEARING,
-    });
-    moved.push(Event::OrderScreened { order, exclusion })
+    };
+    Few::two(moved, screened)
 }

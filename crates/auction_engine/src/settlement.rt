@@ -1,9 +1,9 @@
 // The calls `settle`, `skip_fill`, `finish` and `expire`. Cash and notes move on the chain.
 ghost use mathlib.Core.Path.{_≡_};
 ghost use mathlib.Core.Bool.{Bool, true, false, cond, not};
+ghost use mathlib.Core.List.{[], _∷_};
 ghost use Prim.Native.Nat.{ℕ, _+_, _-_, _^_, _<_, _≤_, min};
 ghost use lib.Dec.{ltb, leb, eqb};
-ghost use lib.ListN.{set};
 ghost use lib.Signed.{leZ};
 ghost use Rattle.laws.specs.Sums.{sumBelow, only};
 ghost use Rattle.wide.specs.Value.{value};
@@ -13,18 +13,21 @@ ghost use Rattle.laws.specs.Checks.{unless, _then_};
 ghost use Rattle.book.specs.Limits.{maxFills};
 ghost use Rattle.book.specs.Book.{fillIn};
 ghost use Rattle.disclosure.specs.Disclosure.{maxBand};
-ghost use Rattle.events.specs.Events.{packed};
-ghost use Rattle.auction_engine.specs.Session.{fillAt, remake};
+ghost use Rattle.events.specs.Events.{few};
+ghost use Rattle.events.specs.declared.Event.the-variants.{FillSettled};
+ghost use Rattle.auction_engine.specs.Session.{orderAt, fillAt};
 ghost use Rattle.auction_engine.specs.Call as call;
-ghost use Rattle.auction_engine.specs.Settlement.{asSettled, settleEffect, settleEvents, skipEffect, movedVolume, printOf};
+ghost use Rattle.auction_engine.specs.Settlement.{asSettled, movedVolume, printOf};
 ghost use Rattle.auction_engine.specs.Engine.{refusal, answer};
+ghost use Rattle.auction_engine.specs.Changes.{writing, changeOf};
 use crate::Answer;
 use crate::Session;
+use crate::changes::Change;
 use crate::first_of;
 use crate::unless;
 use book::Fill;
 use events::Event;
-use events::Events;
+use events::Few;
 use events::Print;
 use wide::Wide;
 
@@ -35,22 +38,37 @@ impl Session {
     pub fn settle(self, fill: u32) -> Answer
         ensures { λ r. ⌜ r ≡ answer self (call.settle fill) ⌝ }
     {
-        let refusal = self.settle_refusal(fill);
-        if refusal != 0 {
-            return Answer::refused(self, refusal);
-        }
-        let at = fill as usize;
-        let events = self.settle_events(fill);
-        let mut session = self.mark_settled(at);
-        session.fills_settled = saturating_next(self.fills_settled);
-        Answer {
-            refusal: 0,
-            session,
-            events,
-        }
+        let c = self.settle_change(fill);
+        self.made(c)
     }
 
-    pub fn settle_refusal(self, fill: u32) -> u8
+    pub fn settle_change(self, fill: u32) -> Change
+        ensures { λ r. ⌜ r ≡ changeOf self (call.settle fill) ⌝ }
+    {
+        let at = fill as usize;
+        let f = self.fill_at(at);
+        let refusal = self.settle_refusal(fill, f);
+        if refusal != 0 {
+            return self.unchanged(refusal);
+        }
+        let mut c = self.fill_change(at, f, settle_events(f, fill, self.cleared.clear_price));
+        c.fills_settled = saturating_next(self.fills_settled);
+        c
+    }
+
+    // The fill at a place; any, where the array has no such place.
+    fn fill_at(self, at: usize) -> Fill
+        ensures { λ r. ⌜ (at < maxFills → r ≡ fillAt self at) ⌝ }
+    {
+        let fills = self.fills;
+        if at < Session::MAX_FILLS {
+            return fills[at];
+        }
+        fills[0]
+    }
+
+    fn settle_refusal(self, fill: u32, f: Fill) -> u8
+        requires { ⌜ (fill < maxFills → f ≡ fillAt self fill) ⌝ }
         ensures { λ r. ⌜ r ≡ refusal self (call.settle fill) ⌝ }
     {
         let bad = self.checked();
@@ -61,82 +79,61 @@ impl Session {
             crate::admits(self.phase, crate::SETTLE),
             book::error::WRONG_PHASE,
         );
-        first_of(phase, self.fill_refusal(fill as usize))
+        first_of(phase, self.fill_refusal(fill as usize, f))
     }
 
     // 21 no fill; 23 settled.
-    fn fill_refusal(self, at: usize) -> u8
-        requires { ⌜ self .«fill_count» ≤ maxFills ⌝ }
+    fn fill_refusal(self, at: usize, f: Fill) -> u8
+        requires { ⌜ (self .«fill_count» ≤ maxFills) × (at < maxFills → f ≡ fillAt self at) ⌝ }
         ensures { λ r. ⌜ r ≡ unless (ltb at (self .«fill_count»)) 21 then unless (not (fillAt self at .settled)) 23 ⌝ }
     {
         if self.fill_count <= at {
             return book::error::NO_FILL;
         }
-        let fills = self.fills;
-        let f = fills[at];
         unless(!f.settled, book::error::FILL_SETTLED)
     }
 
-    fn mark_settled(self, at: usize) -> Session
-        requires { ⌜ at < maxFills ⌝ }
-        ensures { λ r. ⌜ r ≡ remake self (self .cleared) (self .phase) (self .«rofr_qty») (self .«fills_settled») (self .«skipped_fills») (self .orders)
-            (set (self .fills) at (asSettled (fillAt self at))) (self .«fill_count») ⌝ }
+    // A fill at a place, settled.
+    fn fill_change(self, at: usize, f: Fill, events: Few) -> Change
+        ensures { λ r. ⌜ r ≡ writing self false 0 (orderAt self 0) at (asSettled f) 0 events ⌝ }
     {
-        let mut fills = self.fills;
-        let mut f = fills[at];
-        f.settled = true;
-        fills[at] = f;
-        let mut next = self;
-        next.fills = fills;
-        next
-    }
-
-    // Nothing is said of a fill that the issuer took whole.
-    fn settle_events(self, fill: u32) -> Events
-        requires { ⌜ fill < maxFills ⌝ }
-        ensures { λ r. ⌜ r ≡ packed (settleEvents self fill) ⌝ }
-    {
-        let at = fill as usize;
-        let fills = self.fills;
-        let f = fills[at];
-        let none = Events::none();
-        if f.qty == 0 {
-            return none;
-        }
-        none.push(Event::FillSettled {
-            fill,
-            qty: f.qty,
-            price: self.cleared.clear_price,
-        })
+        let mut settled = f;
+        settled.settled = true;
+        let mut c = self.standing(events);
+        c.fill_at = at;
+        c.fill = settled;
+        c
     }
 
     // A fill that fails the gate is retired: it counts as done, and nothing moves for it. The clock is not read.
     pub fn skip_fill(self, now: i64, fill: u32, reason: u8) -> Answer
         ensures { λ r. ⌜ r ≡ answer self (call.skip now fill reason) ⌝ }
     {
-        let refusal = self.skip_refusal(now, fill, reason);
-        if refusal != 0 {
-            return Answer::refused(self, refusal);
-        }
+        let c = self.skip_change(now, fill, reason);
+        self.made(c)
+    }
+
+    pub fn skip_change(self, now: i64, fill: u32, reason: u8) -> Change
+        ensures { λ r. ⌜ r ≡ changeOf self (call.skip now fill reason) ⌝ }
+    {
         let at = fill as usize;
-        let fills = self.fills;
-        let f = fills[at];
-        let none = Events::none();
-        let events = none.push(Event::FillSkipped {
+        let f = self.fill_at(at);
+        let refusal = self.skip_refusal(now, fill, reason, f);
+        if refusal != 0 {
+            return self.unchanged(refusal);
+        }
+        let skipped = Event::FillSkipped {
             fill,
             qty: f.qty,
             reason,
-        });
-        let mut session = self.mark_settled(at);
-        session.skipped_fills = with_bit(self.skipped_fills, fill);
-        Answer {
-            refusal: 0,
-            session,
-            events,
-        }
+        };
+        let mut c = self.fill_change(at, f, Few::one(skipped));
+        c.skipped_fills = with_bit(self.skipped_fills, fill);
+        c
     }
 
-    pub fn skip_refusal(self, now: i64, fill: u32, reason: u8) -> u8
+    fn skip_refusal(self, now: i64, fill: u32, reason: u8, f: Fill) -> u8
+        requires { ⌜ (fill < maxFills → f ≡ fillAt self fill) ⌝ }
         ensures { λ r. ⌜ r ≡ refusal self (call.skip now fill reason) ⌝ }
     {
         let bad = self.checked();
@@ -148,7 +145,7 @@ impl Session {
             crate::admits(self.phase, crate::SKIP),
             book::error::WRONG_PHASE,
         );
-        let no_fill = self.fill_refusal(fill as usize);
+        let no_fill = self.fill_refusal(fill as usize, f);
         let passes = unless(0 < reason, book::error::FILL_SETTLEABLE);
         first_of(argument, first_of(phase, first_of(no_fill, passes)))
     }
@@ -157,22 +154,23 @@ impl Session {
     pub fn finish(self, now: i64) -> Answer
         ensures { λ r. ⌜ r ≡ answer self (call.finish now) ⌝ }
     {
+        let c = self.finish_change(now);
+        self.made(c)
+    }
+
+    pub fn finish_change(self, now: i64) -> Change
+        ensures { λ r. ⌜ r ≡ changeOf self (call.finish now) ⌝ }
+    {
         let refusal = self.finish_refusal(now);
         if refusal != 0 {
-            return Answer::refused(self, refusal);
+            return self.unchanged(refusal);
         }
-        let none = Events::none();
-        let print = none.push(Event::ClearingPrint(self.print_of()));
-        let events = print.push(Event::PhaseChanged {
+        let print = Event::ClearingPrint(self.print_of());
+        let moved = Event::PhaseChanged {
             from: self.phase,
             to: crate::PRINTED,
-        });
-        let session = self.at_phase(crate::PRINTED);
-        Answer {
-            refusal: 0,
-            session,
-            events,
-        }
+        };
+        self.phase_change(crate::PRINTED, Few::two(print, moved))
     }
 
     pub fn finish_refusal(self, now: i64) -> u8
@@ -229,22 +227,23 @@ impl Session {
     pub fn expire(self, now: i64) -> Answer
         ensures { λ r. ⌜ r ≡ answer self (call.expire now) ⌝ }
     {
+        let c = self.expire_change(now);
+        self.made(c)
+    }
+
+    pub fn expire_change(self, now: i64) -> Change
+        ensures { λ r. ⌜ r ≡ changeOf self (call.expire now) ⌝ }
+    {
         let refusal = self.expire_refusal(now);
         if refusal != 0 {
-            return Answer::refused(self, refusal);
+            return self.unchanged(refusal);
         }
-        let none = Events::none();
-        let failed = none.push(Event::SessionFailed(DEADLINE));
-        let events = failed.push(Event::PhaseChanged {
+        let failed = Event::SessionFailed(DEADLINE);
+        let moved = Event::PhaseChanged {
             from: self.phase,
             to: crate::FAILED,
-        });
-        let session = self.at_phase(crate::FAILED);
-        Answer {
-            refusal: 0,
-            session,
-            events,
-        }
+        };
+        self.phase_change(crate::FAILED, Few::two(failed, moved))
     }
 
     pub fn expire_refusal(self, now: i64) -> u8
@@ -265,6 +264,20 @@ impl Session {
         );
         first_of(phase, window)
     }
+}
+
+// Nothing is said of a fill that the issuer took whole.
+fn settle_events(f: Fill, fill: u32, price: u64) -> Few
+    ensures { λ r. ⌜ r ≡ few (cond (eqb (f .qty) 0) [] (FillSettled fill (f .qty) price ∷ [])) ⌝ }
+{
+    if f.qty == 0 {
+        return Few::none();
+    }
+    Few::one(Event::FillSettled {
+        fill,
+        qty: f.qty,
+        price,
+    })
 }
 
 // One more, or the largest 32-bit number.

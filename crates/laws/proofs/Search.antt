@@ -66,6 +66,11 @@ first-found p i (suc n) e t l = go (ℕ-discrete i n) (first-found p i n e t)
 pub first-end : (p : ℕ → Bool) (n i : ℕ) → first p i ≡ i → i ≤ n → n ≤ i → n ≡ first p n
 first-end p n i e l k = let q : i ≡ n = le-antisymm l k in sym (ap (first p) (sym q) ∙ e ∙ q)
 
+-- one place more in a loop that goes on with what it found
+pub first-more : (p : ℕ → Bool) (i found : ℕ) (t : Bool) → found ≡ first p i → t ≡ p i → cond (ltb found i) found (cond t i (i + 1)) ≡ first p (i + 1)
+unfolding first
+first-more p i found t e f = rw (e, f, add-one)
+
 pub every-all : (p : ℕ → Bool) (n : ℕ) → ((i : ℕ) → i < n → p i ≡ true) → every p n ≡ true
 unfolding every
 every-all p zero e = refl

@@ -8,5 +8,6 @@ pub mod Forward
 pub mod Course
 pub mod Lent
 pub mod Turns
+pub mod Stepping
 pub mod Running
 pub mod Entry

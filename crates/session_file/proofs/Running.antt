@@ -19,7 +19,7 @@ use Rattle.session_file.specs.declared.runner.Turn.{Turn}
 use Rattle.session_file.specs.Runner.{start, turnAt}
 use Rattle.session_file.specs.File.{lastLine, listingFrom, maxInput, listing}
 use Rattle.session_file.specs.Entry.{Ran}
-use Rattle.session_file.proofs.Forward.{onward}
+use Rattle.session_file.proofs.Forward.{Onward, onward}
 use Rattle.session_file.proofs.Lent.{fits, longer, lent, to-end, puts-lent, length-lent}
 
 -- ---- what is left to list, while bytes are left and where none are
@@ -145,3 +145,27 @@ module _ {s e : List ℕ} {r : Runner} {number at : ℕ} {e′ : List ℕ} (v : 
       let z = eqb-false (w .refusal) 0 t in
       rw t (omega (arith, v .room, ap (λ (x : Written). x .len) (longer d z .1)), running-over h d z))
       (tested (eqb (w .refusal) 0))
+
+-- ---- a record from runner r to r′: what was said of it was written after at, and w was answered
+pub record Wrote (s e′ : List ℕ) (r r′ : Runner) (number at : ℕ) (w : Written) (e″ : List ℕ) : Type 0 where
+  pub turn : Turn
+  pub is-turn : turn ≡ turnAt s r
+  pub runs : turn .runner ≡ r′
+  pub part : List ℕ
+  pub same-part : length part ≡ length (take (length e′ - at) (drop at e′))
+  pub writes : Writes (recordLines number (said (turn .said))) w (take (length e′ - at) (drop at e′)) part
+  pub left : e″ ≡ lent at (length e′ - at) e′ part
+
+module _ {s e e′ e″ : List ℕ} {r r′ : Runner} {number at : ℕ} {w : Written} (v : Running s e r number at e′) (d : Wrote s e′ r r′ number at w e″) where
+  pub wrote-length : length e″ ≡ length e
+  wrote-length = rw (d .left) (running-length v (length e′ - at) refl (d .part) (d .same-part))
+
+  pub wrote-more : r .at < length s → w .refusal ≡ 0 → Running s e r′ (number + 1) (at + w .len) e″
+  wrote-more h z = rw (d .left, ← (d .runs)) (running-more v (length e′ - at) refl (d .part) (d .same-part) (d .turn) h (d .is-turn) (d .writes) z)
+
+  pub wrote-long : r .at < length s → w .refusal ≢ 0 → Ran s w e e″
+  wrote-long h z = rw (d .left) (running-long v (length e′ - at) refl (d .part) (d .same-part) (d .turn) h (d .is-turn) (d .writes) z)
+
+  -- the runner goes forward
+  pub wrote-onward : r .at < length s → Onward s r r′
+  wrote-onward h = rw (← (d .runs), d .is-turn) (onward s r h)

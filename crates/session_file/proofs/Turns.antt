@@ -16,17 +16,18 @@ use Rattle.book.specs.declared.Row.{Row}
 use Rattle.auction_engine.specs.declared.CallRecord.{CallRecord}
 use Rattle.auction_engine.specs.declared.Session.{Session}
 use Rattle.auction_engine.specs.Call.{argumentsRefusal}
-use Rattle.auction_engine.specs.Engine.{refusedBy, answer, callOf, applied}
-use Rattle.listing.specs.declared.Record.{Record}
+use Rattle.auction_engine.specs.Engine.{answer, callOf, applied}
+use Rattle.auction_engine.specs.Opening.{orderRefusal, withOrder}
 use Rattle.session_file.specs.declared.records.Mark.{Mark}
 use Rattle.session_file.specs.declared.records.Mark.the-variants.{Unknown, SH, OR, SC, CL, AL, RX, RC, ST, SK, FN, EX}
 use Rattle.session_file.specs.declared.runner.Runner.{Runner}
 use Rattle.session_file.specs.declared.runner.Spot.{Spot}
 use Rattle.session_file.specs.declared.runner.Turn.{Turn}
-use Rattle.session_file.specs.declared.runner.Spot.{Spot}
 use Rattle.session_file.specs.declared.runner.CallAt.{CallAt}
+use Rattle.session_file.specs.declared.runner.RowAt.{RowAt}
 use Rattle.session_file.specs.Records.{Read, refused, header, order, call, kindOf, widthOf, paramsOf, givenOf, rowOf, fieldsOf, markOf, markAt, recordRefusal, readOf}
-use Rattle.session_file.specs.Runner.{saying, saidOf, readRefusal, wentOn, stopped, took, turnAt, callRecordAt, callAt}
+use Rattle.session_file.specs.Runner.{saying, saidOf, readRefusal, wentOn, stopped, took, runnerAt, turnAt, callRecordAt, callAt}
+use Rattle.session_file.specs.Steps.{rowAt}
 use Rattle.session_file.specs.Bytes.{word}
 use Rattle.session_file.specs.Calls.{callRead}
 use Rattle.session_file.proofs.Accepted.{Passed, passed}
@@ -46,18 +47,6 @@ module _ (r : Runner) (end next : ℕ) (x : Read) (n : ℕ) {t : Turn} (is : n �
 applied-known : (s : Session) (c : CallRecord) → c .kind ≤ 8 → applied s c ≡ answer s (callOf c)
 unfolding applied
 applied-known s c h = rw (le-leb (c .kind) 8 h)
-
--- a call refused by a number leaves the session, and its number is said
-pub turn-refused : (s : Session) (c : CallRecord) (n : ℕ) (p : Spot) {t : Turn} → n ≢ 0 → refusedBy s n ≡ applied s c
-    → _≡_ {A = Turn} (record { runner = record { stage = p .stage; session = applied s c .session; at = p .at }; said = saidOf (applied s c) }) t
-    → _≡_ {A = Turn} (record { runner = record { stage = p .stage; session = s; at = p .at }; said = saying 2 n }) t
-turn-refused s c n p z e h = rw (← e, ne-eqb n 0 z) at h
-
--- a turn by its parts
-pub turn-same : {s s′ : Session} {p p′ : Spot} {said said′ : Record} {t : Turn} → s ≡ s′ → p ≡ p′ → said ≡ said′
-    → _≡_ {A = Turn} (record { runner = record { stage = p′ .stage; session = s′; at = p′ .at }; said = said′ }) t
-    → _≡_ {A = Turn} (record { runner = record { stage = p .stage; session = s; at = p .at }; said = said }) t
-turn-same e f g is = rw (e, f, g) is
 
 -- ---- the fields, by the kind of the record
 pub header-fields : (m : Mark) (rec : List ℕ) → kindOf m ≡ 1 → header (paramsOf rec) (givenOf rec) ≡ fieldsOf m rec
@@ -147,6 +136,13 @@ module _ (s : List ℕ) (r : Runner) {rec : List ℕ} (rest : rec ≡ drop (r .a
           let e = call-kind m (rw mark-is at (accepted .known)) (λ h. no-header (kind ∙ h)) (λ h. no-order (kind ∙ h)) in
           turn-took (call (callOf c)) (rw is-call (call-fields m rec e)) is-turn
 
+    -- an order that is not refused: it is added
+    pub turn-added : kindOf m ≡ 2 → orderRefusal (r .session) (rowOf rec) ≡ 0
+        → _≡_ {A = Turn} (record { runner = record { stage = 1; session = withOrder (r .session) (rowOf rec); at = r .at + width }; said = saying 1 (r .session .«order_count») }) (turnAt s r)
+    unfolding readRefusal
+    turn-added e right =
+        turn-took (order (rowOf rec)) (order-fields m rec e) (took-on r (length s) (r .at + width) (order (rowOf rec)) (orderRefusal (r .session) (rowOf rec)) refl right refl)
+
     -- a call whose arguments are right: what the engine answers
     pub turn-applied : kindOf m ≡ 3 → {c : CallRecord} → c ≡ callRead (fieldsOf m rec) → argumentsRefusal (callOf c) ≡ 0
         → _≡_ {A = Turn} (record { runner = record { stage = 2; session = applied (r .session) c .session; at = r .at + width }; said = saidOf (applied (r .session) c) }) (turnAt s r)
@@ -167,6 +163,40 @@ module _ (s : List ℕ) (p : Spot) {rec : List ℕ} (rest : rec ≡ drop (p .at)
       → _≡_ {A = CallAt} (record { stands = b; after = record { stage = 2; at = p .at + width }; call = c }) (callAt s p)
   unfolding callAt
   call-some z number mark wide kind reads args is-both = rw (← rest, ← is, eq-eqb n 0 z, is-both, kind, args, reads, wide, mark, number)
+
+-- ---- the order at a place, likewise
+module _ (s : List ℕ) (p : Spot) {rec : List ℕ} (rest : rec ≡ drop (p .at) s) {n : ℕ} (is : n ≡ recordRefusal rec (p .stage)) {row : Row} (reads : row ≡ rowOf rec) where
+  pub row-none : n ≢ 0 → _≡_ {A = RowAt} (record { stands = false; after = p; row = row }) (rowAt s p)
+  unfolding rowAt
+  row-none z = rw (← rest, ← is, ne-eqb n 0 z, reads)
+
+  pub row-some : n ≡ 0 → {u : ℕ} → u ≡ word 2 rec 0 → {m : Mark} → m ≡ markOf u → {width : ℕ} → width ≡ widthOf m → {k : ℕ} → k ≡ kindOf m
+      → _≡_ {A = RowAt} (record { stands = eqb k 2; after = record { stage = 1; at = p .at + width }; row = row }) (rowAt s p)
+  unfolding rowAt
+  row-some z number mark wide kind = rw (← rest, ← is, eq-eqb n 0 z, kind, wide, mark, number, reads)
+
+-- an order that stands and is not refused is added
+row-turn : (s : List ℕ) (p : Spot) (x : Session) → rowAt s p .stands ≡ true → orderRefusal x (rowAt s p .row) ≡ 0
+    → _≡_ {A = Turn} (record { runner = runnerAt (rowAt s p .after) (withOrder x (rowAt s p .row)); said = saying 1 (x .«order_count») }) (turnAt s (runnerAt p x))
+unfolding rowAt
+row-turn s p x = go (eqb (recordRefusal rec (p .stage)) 0) refl
+  where
+    rec : List ℕ
+    rec = drop (p .at) s
+
+    found : Bool → RowAt
+    found t =
+        cond t (record { stands = eqb (kindOf (markAt rec)) 2; after = record { stage = 1; at = p .at + widthOf (markAt rec) }; row = rowOf rec })
+        (record { stands = false; after = p; row = rowOf rec })
+
+    go : (t : Bool) → eqb (recordRefusal rec (p .stage)) 0 ≡ t → found t .stands ≡ true → orderRefusal x (found t .row) ≡ 0
+        → _≡_ {A = Turn} (record { runner = runnerAt (found t .after) (withOrder x (found t .row)); said = saying 1 (x .«order_count») }) (turnAt s (runnerAt p x))
+    go true e h z = turn-added s (runnerAt p x) refl refl (eqb-true _ 0 e) refl refl refl (eqb-true _ 2 h) z
+    go false e h z = absurd (false≢true h)
+
+pub row-reads : (s : List ℕ) (p : Spot) {r : RowAt} → r ≡ rowAt s p → r .stands ≡ true → (x : Session) → orderRefusal x (r .row) ≡ 0
+    → _≡_ {A = Turn} (record { runner = runnerAt (r .after) (withOrder x (r .row)); said = saying 1 (x .«order_count») }) (turnAt s (runnerAt p x))
+row-reads s p is h x z = rw is (row-turn s p x (rw is at h) (rw is at z))
 
 -- a call that stands is what the engine answers
 call-turn : (s : List ℕ) (p : Spot) (x : Session) → callAt s p .stands ≡ true

@@ -17,6 +17,7 @@ use Rattle.auction_engine.specs.Opening.{headerRefusal, orderRefusal, withOrder
 use Rattle.session_file.specs.declared.runner.Runner.{Runner}
 use Rattle.session_file.specs.declared.runner.Turn.{Turn}
 use Rattle.session_file.specs.declared.runner.Spot.{Spot}
+use Rattle.session_file.specs.declared.runner.TurnAt.{TurnAt}
 use Rattle.session_file.specs.declared.runner.CallAt.{CallAt}
 use Rattle.session_file.specs.Records.{Read, refused, header, order, call, kindOf, widthOf, fieldsOf, markAt, recordRefusal, readOf}
 use Rattle.session_file.specs.Calls.{callRead}
@@ -67,6 +68,14 @@ start =
           (record { mark = false; reserve = 0; reference = 0; policy = 0; «band_bps» = 0 });
       at = 0;
     }
+
+-- a runner by its place and its session
+abbrev pub runnerAt : Spot → Session → Runner
+runnerAt p s = record { stage = p .stage; session = s; at = p .at }
+
+-- a turn by the session after it, its place and what is said
+abbrev pub turnOf : TurnAt → Turn
+turnOf t = record { runner = runnerAt (t .after) (t .session); said = t .said }
 
 -- the record at the runner's place
 abbrev pub readAt : List ℕ → Runner → Read

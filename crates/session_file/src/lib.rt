@@ -7,9 +7,11 @@ ghost use lib.ListN.{length, replicate};
 ghost use Rattle.listing.specs.Writing.{Writes};
 ghost use Rattle.listing.specs.Lines.{endLine};
 ghost use Rattle.session_file.specs.File.{maxInput, listingFrom};
-ghost use Rattle.session_file.specs.Runner.{start};
+ghost use Rattle.session_file.specs.Runner.{start, runnerAt, turnOf, turnAt, callAt};
 ghost use Rattle.session_file.specs.Entry.{Listed, Entered, Ran};
+use crate::runner::CallAt;
 use crate::runner::Spot;
+use crate::runner::TurnAt;
 use auction_engine::Session;
 use listing::Written;
 
@@ -60,31 +62,36 @@ fn run_file(input: &[u8], out: &mut [u8]) -> Written
     requires { ⌜ length (now input) ≤ maxInput ⌝ }
     ensures { λ r. ⌜ Ran (now (input .entry)) r (now (out .entry)) (now (out .exit)) ⌝ }
 {
-    let begun = runner::begin();
-    let mut session = begun.session;
+    let mut session = runner::unopened();
     let mut spot = Spot { stage: 0, at: 0 };
     let mut number: u64 = 0;
     let mut at = 0;
     while spot.at < input.len() {
         let c = runner::call_at(input, spot);
-        let said = if c.stands {
-            let call = c.call;
-            let early = session.early_refusal(call);
-            spot = c.after;
-            if early != 0 {
-                runner::refused(early)
-            } else {
-                let a = session.apply(call);
-                session = a.session;
-                runner::answered(a)
-            }
+        let step = if c.stands {
+            runner::call_step(session.change(c.call), c.after)
         } else {
-            let t = runner::turn_at(input, spot, session);
+            runner::row_step(session, runner::row_at(input, spot))
+        };
+        let written = if step.whole {
+            let t = whole_turn(input, spot, session, c);
             session = t.session;
             spot = t.after;
-            t.said
+            listing::put_record(&mut out[at..], number, t.said)
+        } else {
+            let order = step.change.order;
+            let fill = step.change.fill;
+            let i = step.change.order_at;
+            let j = step.change.fill_at;
+            session.orders[i] = order;
+            session.fills[j] = fill;
+            session.phase = step.change.phase;
+            session.fills_settled = step.change.fills_settled;
+            session.skipped_fills = step.change.skipped_fills;
+            session.order_count = step.change.order_count;
+            spot = step.after;
+            listing::put_brief(&mut out[at..], number, step.said)
         };
-        let written = listing::put_record(&mut out[at..], number, said);
         if written.refusal != 0 {
             return written;
         }
@@ -93,6 +100,24 @@ fn run_file(input: &[u8], out: &mut [u8]) -> Written
     }
     let last = put_last(&mut out[at..], spot.stage, session);
     ended(at, last)
+}
+
+// The turn of a record that is left to the whole session; a call was read already.
+fn whole_turn(input: &[u8], spot: Spot, session: Session, c: CallAt) -> TurnAt
+    requires { ⌜ c ≡ callAt (now input) spot ⌝ }
+    ensures { λ t. ⌜ turnOf t ≡ turnAt (now (input .entry)) (runnerAt spot session) ⌝ }
+{
+    if c.stands {
+        let a = session.apply(c.call);
+        let session = a.session;
+        let after = c.after;
+        return TurnAt {
+            session,
+            after,
+            said: runner::answered(a),
+        };
+    }
+    runner::turn_at(input, spot, session)
 }
 
 fn put_last(out: &mut [u8], stage: u8, s: Session) -> Written

@@ -1,11 +1,17 @@
 // A file's records in turn.
 ghost use mathlib.Core.Path.{_≡_};
-ghost use mathlib.Core.Bool.{Bool, true, false, cond};
+ghost use mathlib.Core.Bool.{Bool, true, false, cond, _&&_};
+ghost use mathlib.Core.List.{[]};
 ghost use Prim.Native.Nat.{ℕ, _+_, _<_, _≤_};
+ghost use lib.Dec.{eqb};
 ghost use lib.ListN.{length, drop};
+ghost use Rattle.credit_math.specs.Limits.{maxOrders};
+ghost use Rattle.events.specs.Events.{few};
 ghost use Rattle.auction_engine.specs.Engine.{callOf};
+ghost use Rattle.auction_engine.specs.Opening.{orderRefusal};
 ghost use Rattle.session_file.specs.Records.{header, order, call};
-ghost use Rattle.session_file.specs.Runner.{start, saying, saidOf, stopped, took, turnAt, callAt};
+ghost use Rattle.session_file.specs.Runner.{start, saying, saidOf, stopped, took, runnerAt, turnOf, turnAt, callAt};
+ghost use Rattle.session_file.specs.Steps.{rowAt, briefOf, callStep, rowChange, rowStep};
 use crate::bytes;
 use crate::calls;
 use crate::opening;
@@ -13,10 +19,14 @@ use crate::records;
 use auction_engine::Answer;
 use auction_engine::CallRecord;
 use auction_engine::Session;
+use auction_engine::changes::Change;
 use book::Given;
+use book::Order;
 use book::Params;
 use book::Row;
 use events::Events;
+use events::Few;
+use listing::Brief;
 use listing::Record;
 
 // How far a file was read, and the session there.
@@ -37,6 +47,18 @@ pub struct Turn {
 pub fn begin() -> Runner
     ensures { λ r. ⌜ r ≡ start ⌝ }
 {
+    let session = unopened();
+    Runner {
+        stage: 0,
+        session,
+        at: 0,
+    }
+}
+
+// The session before the header: nobody sees it.
+pub fn unopened() -> Session
+    ensures { λ r. ⌜ r ≡ start .session ⌝ }
+{
     let params = Params {
         reveal_end: 0,
         rofr_window: 0,
@@ -53,39 +75,27 @@ pub fn begin() -> Runner
         policy: 0,
         band_bps: 0,
     };
-    let session = Session::new(params, given);
-    Runner {
-        stage: 0,
-        session,
-        at: 0,
-    }
+    Session::new(params, given)
 }
 
 // The next record: what it makes of the runner, and what is said of it.
 pub fn next_turn(r: Runner, input: &[u8]) -> Turn
     ensures { λ t. ⌜ t ≡ turnAt (now (input .entry)) r ⌝ }
 {
-    let at = r.at;
-    let end = input.len();
-    let rec = rest_of(input, at);
-    let refusal = records::record_refusal(rec, r.stage);
-    if refusal != 0 {
-        return stop(r, end, refusal);
-    }
-    let m = records::mark_of(bytes::u16_at(rec, 0));
-    let next = at + records::width_of(m);
-    let kind = records::kind_of(m);
-    match kind {
-        1 => header_turn(
-            r,
-            end,
-            next,
-            records::params_of(rec),
-            records::given_of(rec),
-        ),
-        2 => order_turn(r, end, next, records::row_of(rec)),
-        _ => call_turn(r, end, next, calls::read_call(m, rec)),
-    }
+    let spot = Spot {
+        stage: r.stage,
+        at: r.at,
+    };
+    let t = turn_at(input, spot, r.session);
+    let session = t.session;
+    let after = t.after;
+    let said = t.said;
+    let runner = Runner {
+        stage: after.stage,
+        session,
+        at: after.at,
+    };
+    Turn { runner, said }
 }
 
 // A place of a file, and the stage there.
@@ -129,6 +139,132 @@ pub fn call_at(input: &[u8], spot: Spot) -> CallAt
     }
 }
 
+// An order of a file, and where the file goes on.
+pub struct RowAt {
+    pub stands: bool,
+    pub after: Spot,
+    pub row: Row,
+}
+
+// The order at a place, where one stands there.
+pub fn row_at(input: &[u8], spot: Spot) -> RowAt
+    ensures { λ r. ⌜ r ≡ rowAt (now (input .entry)) spot ⌝ }
+{
+    let at = spot.at;
+    let rec = rest_of(input, at);
+    let row = records::row_of(rec);
+    let refusal = records::record_refusal(rec, spot.stage);
+    if refusal != 0 {
+        return RowAt {
+            stands: false,
+            after: spot,
+            row,
+        };
+    }
+    let m = records::mark_of(bytes::u16_at(rec, 0));
+    let next = at + records::width_of(m);
+    let kind = records::kind_of(m);
+    let after = Spot { stage: 1, at: next };
+    RowAt {
+        stands: kind == 2,
+        after,
+        row,
+    }
+}
+
+// A record that changes little: what it changes, where the file goes on, and what is said of it. Any other record is left to the
+// whole session.
+pub struct Step {
+    pub whole: bool,
+    pub change: Change,
+    pub after: Spot,
+    pub said: Brief,
+}
+
+// The step of a call, from what it changes.
+pub fn call_step(change: Change, after: Spot) -> Step
+    ensures { λ r. ⌜ r ≡ callStep change after ⌝ }
+{
+    let said = brief_of(change);
+    Step {
+        whole: change.whole,
+        change,
+        after,
+        said,
+    }
+}
+
+// What a change is said as: its refusal, or its events.
+fn brief_of(change: Change) -> Brief
+    ensures { λ r. ⌜ r ≡ briefOf change ⌝ }
+{
+    if change.refusal != 0 {
+        return figure(2, change.refusal as u64);
+    }
+    let events = change.events;
+    Brief {
+        kind: 3,
+        figure: 0,
+        events,
+    }
+}
+
+// A line with a figure, and no event.
+fn figure(kind: u8, figure: u64) -> Brief
+    ensures { λ r. ⌜ r ≡ record { kind = kind; figure = figure; events = few [] } ⌝ }
+{
+    let events = Few::none();
+    Brief {
+        kind,
+        figure,
+        events,
+    }
+}
+
+// The step of an order that stands and is not refused.
+pub fn row_step(session: Session, r: RowAt) -> Step
+    ensures { λ t. ⌜ t ≡ rowStep session r ⌝ }
+{
+    let row = r.row;
+    let after = r.after;
+    if taken(session, r) {
+        let change = row_change(session, row);
+        let said = figure(1, session.order_count as u64);
+        return Step {
+            whole: false,
+            change,
+            after,
+            said,
+        };
+    }
+    let mut step = call_step(session.unchanged(0), after);
+    step.whole = true;
+    step
+}
+
+// Whether an order stands and is not refused.
+fn taken(session: Session, r: RowAt) -> bool
+    ensures { λ b. ⌜ b ≡ (r .stands && eqb (orderRefusal session (r .row)) 0) ⌝ }
+{
+    if r.stands {
+        return opening::order_refusal(session, r.row) == 0;
+    }
+    false
+}
+
+// What one order more changes.
+fn row_change(session: Session, row: Row) -> Change
+    requires { ⌜ session .«order_count» < maxOrders ⌝ }
+    ensures { λ r. ⌜ r ≡ rowChange session row ⌝ }
+{
+    let order = Order::listed(row);
+    let mut c = session.unchanged(0);
+    c.order_at = session.order_count;
+    c.order = order;
+    c.order_count = session.order_count + 1;
+    c
+}
+
 // A record at a place: the session after it, where the file goes on, and what is said of it.
 pub struct TurnAt {
     pub session: Session,
@@ -138,26 +274,29 @@ pub struct TurnAt {
 
 // The next turn, from a place and a session.
 pub fn turn_at(input: &[u8], spot: Spot, session: Session) -> TurnAt
-    ensures { λ t. ⌜ record { runner = record { stage = t .after .stage; session = t .session; at = t .after .at }; said = t .said }
-        ≡ turnAt (now (input .entry)) (record { stage = spot .stage; session = session; at = spot .at }) ⌝ }
+    ensures { λ t. ⌜ turnOf t ≡ turnAt (now (input .entry)) (runnerAt spot session) ⌝ }
 {
-    let r = Runner {
-        stage: spot.stage,
-        session,
-        at: spot.at,
-    };
-    let t = next_turn(r, input);
-    let n = t.runner;
-    let said = t.said;
-    let session = n.session;
-    let after = Spot {
-        stage: n.stage,
-        at: n.at,
-    };
-    TurnAt {
-        session,
-        after,
-        said,
+    let at = spot.at;
+    let end = input.len();
+    let rec = rest_of(input, at);
+    let refusal = records::record_refusal(rec, spot.stage);
+    if refusal != 0 {
+        return stop(session, spot, end, refusal);
+    }
+    let m = records::mark_of(bytes::u16_at(rec, 0));
+    let next = at + records::width_of(m);
+    let kind = records::kind_of(m);
+    match kind {
+        1 => header_turn(
+            session,
+            spot,
+            end,
+            next,
+            records::params_of(rec),
+            records::given_of(rec),
+        ),
+        2 => order_turn(session, spot, end, next, records::row_of(rec)),
+        _ => call_turn(session, spot, end, next, calls::read_call(m, rec)),
     }
 }
 
@@ -172,56 +311,68 @@ fn rest_of(input: &[u8], at: usize) -> &[u8]
     &input[end..]
 }
 
-fn header_turn(r: Runner, end: usize, next: usize, p: Params, g: Given) -> Turn
-    ensures { λ t. ⌜ t ≡ took r end next (header p g) ⌝ }
+fn header_turn(session: Session, spot: Spot, end: usize, next: usize, p: Params, g: Given) -> TurnAt
+    ensures { λ t. ⌜ turnOf t ≡ took (runnerAt spot session) end next (header p g) ⌝ }
 {
     let refusal = opening::header_refusal(p, g);
     if refusal != 0 {
-        return stop(r, end, refusal);
+        return stop(session, spot, end, refusal);
     }
-    go_on(1, Session::new(p, g), next, opened())
+    let after = Spot { stage: 1, at: next };
+    TurnAt {
+        session: Session::new(p, g),
+        after,
+        said: opened(),
+    }
 }
 
-fn order_turn(r: Runner, end: usize, next: usize, row: Row) -> Turn
-    ensures { λ t. ⌜ t ≡ took r end next (order row) ⌝ }
+fn order_turn(session: Session, spot: Spot, end: usize, next: usize, row: Row) -> TurnAt
+    ensures { λ t. ⌜ turnOf t ≡ took (runnerAt spot session) end next (order row) ⌝ }
 {
-    let s = r.session;
-    let refusal = opening::order_refusal(s, row);
+    let refusal = opening::order_refusal(session, row);
     if refusal != 0 {
-        return stop(r, end, refusal);
+        return stop(session, spot, end, refusal);
     }
-    let number = s.order_count as u64;
-    go_on(1, opening::with_order(s, row), next, ordered(number))
+    let after = Spot { stage: 1, at: next };
+    TurnAt {
+        session: opening::with_order(session, row),
+        after,
+        said: ordered(session.order_count as u64),
+    }
 }
 
 // A call: refused or not, the file goes on.
-fn call_turn(r: Runner, end: usize, next: usize, c: CallRecord) -> Turn
+fn call_turn(session: Session, spot: Spot, end: usize, next: usize, c: CallRecord) -> TurnAt
     requires { ⌜ c .kind ≤ 8 ⌝ }
-    ensures { λ t. ⌜ t ≡ took r end next (call (callOf c)) ⌝ }
+    ensures { λ t. ⌜ turnOf t ≡ took (runnerAt spot session) end next (call (callOf c)) ⌝ }
 {
     let refusal = auction_engine::arguments_refusal(c);
     if refusal != 0 {
-        return stop(r, end, refusal);
+        return stop(session, spot, end, refusal);
     }
-    let s = r.session;
-    let a = s.apply(c);
+    let a = session.apply(c);
     let session = a.session;
-    go_on(2, session, next, answered(a))
-}
-
-fn go_on(stage: u8, session: Session, at: usize, what: Record) -> Turn
-    ensures { λ t. ⌜ t ≡ record { runner = record { stage = stage; session = session; at = at }; said = what } ⌝ }
-{
-    let runner = Runner { stage, session, at };
-    Turn { runner, said: what }
+    let after = Spot { stage: 2, at: next };
+    TurnAt {
+        session,
+        after,
+        said: answered(a),
+    }
 }
 
 // A record that ends the file: nothing after it is read.
-fn stop(r: Runner, end: usize, refusal: u8) -> Turn
-    ensures { λ t. ⌜ t ≡ stopped r end refusal ⌝ }
+fn stop(session: Session, spot: Spot, end: usize, refusal: u8) -> TurnAt
+    ensures { λ t. ⌜ turnOf t ≡ stopped (runnerAt spot session) end refusal ⌝ }
 {
-    let session = r.session;
-    go_on(r.stage, session, end, refused(refusal))
+    let after = Spot {
+        stage: spot.stage,
+        at: end,
+    };
+    TurnAt {
+        session,
+        after,
+        said: refused(refusal),
+    }
 }
 
 fn opened() -> Record

@@ -1,94 +1,102 @@
 -- `session_file::run_file` meets its contract. The loop's invariant: what is written and what is left to list make up the listing.
 -- The measure is what is left of the input. Assumes nothing.
 use mathlib.Core.Path.{_≡_, refl, _∙_, ap}
-use mathlib.Core.Logic.{_≢_, ⊎-elim}
+use mathlib.Core.Logic.{⊎-elim}
+use mathlib.Core.Bool.{false}
 use Prim.Native.Nat.{ℕ, _-_}
 use native.Mathlib.Omega.{arith}
 use lib.ListN.{length}
 use borrow.Author.Needs.{needs}
 use Rattle.auction_engine.specs.declared.Session.{Session}
-use Rattle.auction_engine.specs.declared.CallRecord.{CallRecord}
-use Rattle.auction_engine.specs.Engine.{refusedBy, applied, earlyApplied}
-use Rattle.auction_engine.proofs.Early.{early-answers}
 use Rattle.session_file.specs.declared.runner.Runner.{Runner}
-use Rattle.session_file.specs.declared.runner.Turn.{Turn}
-use Rattle.session_file.specs.Runner.{start, saidOf, turnAt}
-use Rattle.session_file.proofs.Forward.{onward}
-use Rattle.session_file.proofs.Turns.{turn-refused, turn-same, call-reads}
-use Rattle.session_file.proofs.Running.{Running, running-start, running-length, running-more, running-long, running-last}
+use Rattle.session_file.specs.Runner.{start, runnerAt, turnOf}
+use Rattle.session_file.proofs.Stepping.{Stepped, step-call, step-row}
+use Rattle.session_file.proofs.Running.{Running, running-start, running-length, running-last, Wrote, wrote-length, wrote-more, wrote-long, wrote-onward}
 use Rattle.session_file.proofs.run_file.Statement.{statement}
 use Rattle.session_file.proofs.run_file.Tie as tie
 
 abbrev Inv-loop : tie.InvT-loop
-Inv-loop input out₀ session₀ spot₀ number₀ at₀ out session spot number at = Running input out₀ (record { stage = spot .stage; session = session; at = spot .at }) number at out
+Inv-loop input out₀ session₀ spot₀ number₀ at₀ out session spot number at = Running input out₀ (runnerAt spot session) number at out
 
 abbrev μ-loop : tie.MeasureT-loop
 μ-loop input out₀ session₀ spot₀ number₀ at₀ out session spot number at = length input - spot .at
 
 -- the runner before the first record, from its session
-begun : (r : Runner) → r ≡ start → _≡_ {A = Runner} (record { stage = 0; session = r .session; at = 0 }) start
+begun : (x : Session) → x ≡ start .session → _≡_ {A = Runner} (runnerAt (record { stage = 0; at = 0 }) x) start
 unfolding start
-begun r e = ap (λ (x : Runner). record { stage = 0; session = x .session; at = 0 }) e
+begun x e = ap (runnerAt (record { stage = 0; at = 0 })) e
 
--- an early refusal is what the engine answers
-early : (s : Session) (r : CallRecord) {n : ℕ} → n ≡ earlyApplied s r → n ≢ 0 → refusedBy s n ≡ applied s r
-early s r is z = rw is (early-answers s r (rw is at z))
-
--- the turn, past the branch by what stands there
-turned : (c : tie.Joined2 Inv-loop μ-loop)
+-- a step that is not left to the whole session, past the branch by what stands there
+stepped : (c : tie.Joined2 Inv-loop μ-loop) → c .if2 .step .whole ≡ false
     → let l = c .before .before .before .before .loop in
-    _≡_ {A = Turn} (record { runner = record { stage = c .if2 .spot .stage; session = c .if2 .session; at = c .if2 .spot .at }; said = c .if2 .said })
-    (turnAt (c .before .before .before .before .before .before .before .before .before .args .input .now) (record { stage = l .spot .stage; session = l .session; at = l .spot .at }))
-turned c =
+    Stepped (c .before .before .before .before .before .before .before .before .args .input .now) (l .spot) (l .session) (c .if2 .step)
+stepped c h =
     let l = c .before .before .before .before .loop in
-    let found = c .before .call-at in
-    let input = c .before .before .before .before .before .before .before .before .before .args .input .now in
-    ⊎-elim
-    (λ w.
-    let n = w .2 in
-    let z = w .4 .taken in
-    turn-same (w .6) (w .7) (w .8 ∙ w .5 .ensures) (turn-refused (l .session) (found .result .call) (n .result) (found .result .after) z (early (l .session) (found .result .call) (n .ensures) z) (call-reads input (l .spot) (found .ensures) (w .0 .taken) (l .session))))
-    (λ v.
-    ⊎-elim
-    (λ w.
-    let is = w .5 .ensures in
-    turn-same (w .8 ∙ ap (λ x. x .session) is) (w .9) (w .10 ∙ w .7 .ensures ∙ ap saidOf is) (call-reads input (l .spot) (found .ensures) (w .0 .taken) (l .session)))
-    (λ w. turn-same (w .5) (w .6) (w .7) (w .1 .ensures))
-    v)
+    let input = c .before .before .before .before .before .before .before .before .args .input .now in
+    ⊎-elim (λ w. step-call input (l .spot) (l .session) (c .before .call-at .ensures) (w .0 .taken) (w .1 .ensures) (w .3 ∙ w .2 .ensures) h)
+    (λ w. step-row input (l .spot) (l .session) (w .1 .ensures) (w .3 ∙ w .2 .ensures) h)
     (c .if2 .came)
 
-begin-requires : tie.Need-begin-requires Inv-loop μ-loop
-begin-requires c κs = tt
+-- the record, past the branch by how it is run
+wrote : (c : tie.Joined3 Inv-loop μ-loop)
+    → let l = c .before .before .before .before .before .loop in
+    Wrote (c .before .before .before .before .before .before .before .before .before .args .input .now) (l .out) (runnerAt (l .spot) (l .session)) (runnerAt (c .if3 .spot) (c .if3 .session))
+    (l .number) (l .at) (c .if3 .written) (c .if3 .out)
+wrote c =
+    ⊎-elim
+    (λ w. record {
+      turn = turnOf (w .1 .result);
+      is-turn = w .1 .ensures;
+      runs = rw (w .9, w .10);
+      part = w .5 .last .0;
+      same-part = w .5 .kept .0;
+      writes = rw (w .11) (w .5 .ensures);
+      left = w .8;
+    })
+    (λ w.
+    let t = stepped (c .before) (w .0 .left) in
+    record {
+      turn = t .turn;
+      is-turn = t .is-turn;
+      runs = rw (w .9, w .10) (t .runs);
+      part = w .5 .last .0;
+      same-part = w .5 .kept .0;
+      writes = rw (t .says, w .11) (w .5 .ensures);
+      left = w .8;
+    })
+    (c .if3 .came)
+
+unopened-requires : tie.Need-unopened-requires Inv-loop μ-loop
+unopened-requires c κs = tt
 
 loop-holds : tie.Need-loop-holds Inv-loop μ-loop
 loop-holds c =
-    let b = c .before in
-    let a = b .before .before .before .args in
-    running-start (a .input .now) (a .out .now) _ (b .before .before .before .pre) (begun (b .begin .result) (b .begin .ensures))
+    let a = c .before .before .before .args in
+    running-start (a .input .now) (a .out .now) _ (c .before .before .before .pre) (begun (c .unopened .result) (c .unopened .ensures))
 
 call-at-requires : tie.Need-call-at-requires Inv-loop μ-loop
 call-at-requires c κs = tt
 
-early-refusal-requires : tie.Need-early-refusal-requires Inv-loop μ-loop
-early-refusal-requires c κs = tt
+change-requires : tie.Need-change-requires Inv-loop μ-loop
+change-requires c κs = tt
 
-refused-requires : tie.Need-refused-requires Inv-loop μ-loop
-refused-requires c κs = tt
+call-step-requires : tie.Need-call-step-requires Inv-loop μ-loop
+call-step-requires c κs = tt
 
-apply-requires : tie.Need-apply-requires Inv-loop μ-loop
-apply-requires c κs = tt
+row-at-requires : tie.Need-row-at-requires Inv-loop μ-loop
+row-at-requires c κs = tt
 
-answered-requires : tie.Need-answered-requires Inv-loop μ-loop
-answered-requires c κs = tt
+row-step-requires : tie.Need-row-step-requires Inv-loop μ-loop
+row-step-requires c κs = tt
 
-turn-at-requires : tie.Need-turn-at-requires Inv-loop μ-loop
-turn-at-requires c κs = tt
+whole-turn-requires : tie.Need-whole-turn-requires Inv-loop μ-loop
+whole-turn-requires c κs = c .before .before .call-at .ensures
 
 sub-put-record : tie.Need-sub-put-record Inv-loop μ-loop
-sub-put-record c = let v = c .before .before .before .before .loop .inv in omega (arith, v .room, v .same)
+sub-put-record c = let v = c .before .before .before .before .before .before .before .before .loop .inv in omega (arith, v .room, v .same)
 
 part-put-record-start : tie.Need-part-put-record-start Inv-loop μ-loop
-part-put-record-start c = let v = c .before .before .before .before .loop .inv in omega (arith, v .room, v .same)
+part-put-record-start c = let v = c .before .before .before .before .before .before .before .before .loop .inv in omega (arith, v .room, v .same)
 
 part-put-record-end : tie.Need-part-put-record-end Inv-loop μ-loop
 part-put-record-end c = search needs
@@ -96,47 +104,62 @@ part-put-record-end c = search needs
 put-record-requires : tie.Need-put-record-requires Inv-loop μ-loop
 put-record-requires c κs = tt
 
+mul-order : tie.Need-mul-order Inv-loop μ-loop
+mul-order c = let d = c .before .before in omega (arith, stepped (d .before) (d .if3 .left) .order-placed)
+
+element-set-from-order : tie.Need-element-set-from-order Inv-loop μ-loop
+element-set-from-order c = let d = c .before .before in stepped (d .before) (d .if3 .left) .order-placed
+
+mul-fill : tie.Need-mul-fill Inv-loop μ-loop
+mul-fill c = let d = c .before .before in omega (arith, stepped (d .before) (d .if3 .left) .fill-placed)
+
+element-set-from-fill : tie.Need-element-set-from-fill Inv-loop μ-loop
+element-set-from-fill c = let d = c .before .before in stepped (d .before) (d .if3 .left) .fill-placed
+
+sub-put-brief : tie.Need-sub-put-brief Inv-loop μ-loop
+sub-put-brief c = let v = c .before .before .before .before .before .before .before .before .loop .inv in omega (arith, v .room, v .same)
+
+part-put-brief-start : tie.Need-part-put-brief-start Inv-loop μ-loop
+part-put-brief-start c = let v = c .before .before .before .before .before .before .before .before .loop .inv in omega (arith, v .room, v .same)
+
+part-put-brief-end : tie.Need-part-put-brief-end Inv-loop μ-loop
+part-put-brief-end c = search needs
+
+put-brief-requires : tie.Need-put-brief-requires Inv-loop μ-loop
+put-brief-requires c κs = tt
+
 same-length : tie.Need-same-length Inv-loop μ-loop
-same-length c =
-    let p = c .before .before .before .before in
-    let l = p .before .before .before .before .before .before .loop in
-    running-length (l .inv) (length (l .out) - l .at) refl (p .put-record .last .0) (p .put-record .kept .0)
+same-length c = let j = c .before .before in wrote-length (j .before .before .before .before .before .loop .inv) (wrote j)
 
 returns : tie.Need-returns Inv-loop μ-loop
 returns c =
-    let p = c .before .before .before .before in
-    let j = p .before .before in
-    let l = j .before .before .before .before .loop in
-    running-long (l .inv) (length (l .out) - l .at) refl (p .put-record .last .0) (p .put-record .kept .0)
-    _ (j .before .before .if1 .taken) (turned j) (p .put-record .ensures) (c .if4 .taken)
+    let j = c .before .before in
+    let t = j .before .before .before in
+    wrote-long (t .before .before .loop .inv) (wrote j) (t .if1 .taken) (c .if4 .taken)
 
 loop-again : tie.Need-loop-again Inv-loop μ-loop
 loop-again c =
-    let p = c .before .before .before .before .before in
-    let j = p .before .before in
-    let l = j .before .before .before .before .loop in
-    running-more (l .inv) (length (l .out) - l .at) refl (p .put-record .last .0) (p .put-record .kept .0)
-    _ (j .before .before .if1 .taken) (turned j) (p .put-record .ensures) (c .before .if4 .left)
+    let j = c .before .before .before in
+    let t = j .before .before .before in
+    wrote-more (t .before .before .loop .inv) (wrote j) (t .if1 .taken) (c .before .if4 .left)
 
 add-at : tie.Need-add-at Inv-loop μ-loop
 add-at c =
-    let k = c .before .before .before .before .before .before .before .before .before .before .before in
-    omega (arith, loop-again c .room, k .before .before .before .before .before .good)
+    let k = c .before .before .before .before .before .before .before .before in
+    omega (arith, loop-again c .room, k .before .before .before .before .good)
 
 add-number : tie.Need-add-number Inv-loop μ-loop
 add-number c =
-    let t = c .before .before .before .before .before .before .before .before .before in
+    let t = c .before .before .before .before .before .before in
     let k = t .before .before in
-    omega (arith, k .loop .inv .count, t .if1 .taken, k .before .before .before .before .before .good .0 .1)
+    omega (arith, k .loop .inv .count, t .if1 .taken, k .before .before .before .before .good .0 .1)
 
 loop-less : tie.Need-loop-less Inv-loop μ-loop
 loop-less c =
-    let j = c .before .before .before .before .before .before .before in
-    let t = j .before .before in
-    let k = t .before .before in
-    let l = k .loop in
-    let o = onward (k .before .before .before .before .before .args .input .now) (record { stage = l .spot .stage; session = l .session; at = l .spot .at }) (t .if1 .taken) in
-    omega (arith, o .on, o .within, ap (λ (x : Turn). x .runner .at) (turned j))
+    let j = c .before .before .before in
+    let t = j .before .before .before in
+    let o = wrote-onward (t .before .before .loop .inv) (wrote j) (t .if1 .taken) in
+    omega (arith, o .on, o .within)
 
 sub-put-last : tie.Need-sub-put-last Inv-loop μ-loop
 sub-put-last c = let v = c .before .before .loop .inv in omega (arith, v .room, v .same)
@@ -156,7 +179,7 @@ ended-requires c κs =
     let j = p .before .before in
     let l = j .before .before .loop in
     let e = running-last (l .inv) (length (l .out) - l .at) refl (p .put-last .last .0) (p .put-last .kept .0) (j .if1 .left) (p .put-last .ensures) in
-    omega (arith, e .0, j .before .before .before .before .before .before .before .good)
+    omega (arith, e .0, j .before .before .before .before .before .before .good)
 
 same-length-2 : tie.Need-same-length-2 Inv-loop μ-loop
 same-length-2 c =
@@ -178,18 +201,26 @@ run-file-spec =
     (tie.spec
     Inv-loop
     μ-loop
-    begin-requires
+    unopened-requires
     loop-holds
     call-at-requires
-    early-refusal-requires
-    refused-requires
-    apply-requires
-    answered-requires
-    turn-at-requires
+    change-requires
+    call-step-requires
+    row-at-requires
+    row-step-requires
+    whole-turn-requires
     sub-put-record
     part-put-record-start
     part-put-record-end
     put-record-requires
+    mul-order
+    element-set-from-order
+    mul-fill
+    element-set-from-fill
+    sub-put-brief
+    part-put-brief-start
+    part-put-brief-end
+    put-brief-requires
     same-length
     returns
     add-at

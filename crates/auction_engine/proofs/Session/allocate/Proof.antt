@@ -1,11 +1,13 @@
 -- `auction_engine::Session::allocate` meets its contract, stage by stage, from what its calls ensure.
 -- Assumes nothing.
-use mathlib.Core.Path.{_≡_, refl, sym, _∙_}
+use mathlib.Core.Path.{_≡_, sym, _∙_}
 use borrow.Author.Needs.{needs}
-use Rattle.auction_engine.specs.Cranks.{Turned}
+use borrow.Author.Tests.{not-true, not-false}
+use Rattle.auction_engine.specs.Call as call
+use Rattle.auction_engine.specs.Matching.{allocateChecks, done}
+use Rattle.auction_engine.proofs.Answers.{refused-answer}
 use Rattle.auction_engine.proofs.Checks.{Within}
-use Rattle.auction_engine.specs.Matching.{allocateChecks}
-use Rattle.auction_engine.proofs.Allocating.{checks-within, allocate-refused, allocate-full, turned-orders, allocate-matched}
+use Rattle.auction_engine.proofs.Allocating.{checks-within, allocate-refused, turns-decide, turned-orders, answer-done, answer-more}
 use Rattle.auction_engine.proofs.Session.allocate.Statement.{statement}
 use Rattle.auction_engine.proofs.Session.allocate.Tie as tie
 
@@ -15,10 +17,6 @@ passed c = sym (c .before .allocate-refusal .ensures) ∙ c .if1 .left
 
 within : (c : tie.Else1) → Within (c .before .before .args .self)
 within c = checks-within (c .before .before .args .self) (passed c)
-
--- the turns begin at the session
-turns : (c : tie.After-turned) → let a = c .before .before .before .before .args in Turned (a .self) (a .max-fills) (c .turned .result)
-turns c = rw (c .before .begin .ensures) at (c .turned .ensures)
 
 allocate-refusal-requires : tie.Need-allocate-refusal-requires
 allocate-refusal-requires c κs = search needs
@@ -32,35 +30,54 @@ returns c =
     let a = d .before .args in
     allocate-refused (a .self) (a .now) (a .max-fills) (d .allocate-refusal .result) (c .refused .result) (d .allocate-refusal .ensures) (c .before .if1 .taken) (c .refused .ensures)
 
-begin-requires : tie.Need-begin-requires
-begin-requires c κs = search needs
-
 turned-requires : tie.Need-turned-requires
-turned-requires c κs = let w = within (c .before) in rw (c .begin .ensures) (refl, w .orders, w .fills)
+turned-requires c κs = let w = within c in (w .orders, w .fills)
 
 refused-requires-2 : tie.Need-refused-requires-2
 refused-requires-2 c κs = search needs
 
 returns-2 : tie.Need-returns-2
 returns-2 c =
-    let d = c .before .before in
-    let e = d .before .before in
+    let t = c .before .before .before in
+    let e = t .before in
     let a = e .before .before .args in
-    allocate-full (a .self) (a .now) (a .max-fills) (d .turned .result) (c .refused2 .result) (passed e) (turns d) (c .before .if2 .taken) (c .refused2 .ensures)
+    let r = t .turned .result in
+    refused-answer (a .self) (call.allocate (a .now) (a .max-fills)) (r .refusal) (turns-decide (a .self) (a .now) (a .max-fills) r (passed e) (t .turned .ensures)) (c .refused2 .result) (c .refused2 .ensures) (c .before .if2 .taken)
 
-matched-requires : tie.Need-matched-requires
-matched-requires c κs =
+none-left-requires : tie.Need-none-left-requires
+none-left-requires c κs =
     let d = c .before in
-    let e = d .before .before in
+    let t = d .before .before in
+    let e = t .before in
     let a = e .before .before .args in
-    turned-orders (a .self) (a .max-fills) (d .turned .result) (turns d) (c .if2 .left) (within e .orders)
+    turned-orders (a .self) (a .max-fills) (t .turned .result) (t .turned .ensures) (d .if2 .left) (within e .orders)
 
 returns-3 : tie.Need-returns-3
+unfolding done
 returns-3 c =
-    let d = c .before .before in
-    let e = d .before .before in
+    let d = c .before .before .before in
+    let t = d .before .before in
+    let e = t .before in
     let a = e .before .before .args in
-    c .matched .ensures ∙ allocate-matched (a .self) (a .max-fills) (d .turned .result) (turns d) (c .before .if2 .left) (a .now) (passed e)
+    answer-more (a .self) (a .max-fills) (t .turned .result) (t .turned .ensures) (d .if2 .left) (a .now) (passed e) (sym (c .before .none-left .ensures) ∙ not-true _ (c .if3 .taken))
+
+phase-after-requires : tie.Need-phase-after-requires
+phase-after-requires c κs = search needs
+
+push-requires : tie.Need-push-requires
+push-requires c κs = search needs
+
+returns-4 : tie.Need-returns-4
+unfolding done
+returns-4 c =
+    let p = c .before in
+    let m = p .before .before in
+    let l = m .before in
+    let d = l .before .before .before in
+    let t = d .before .before in
+    let e = t .before in
+    let a = e .before .before .args in
+    answer-done (a .self) (a .max-fills) (t .turned .result) (t .turned .ensures) (d .if2 .left) (a .now) (passed e) (m .phase-after .result) (p .push .result) (sym (l .before .none-left .ensures) ∙ not-false _ (l .if3 .left)) (m .phase-after .ensures) (p .push .ensures)
 
 pub allocate-spec : {M : Type 1} → statement M
 allocate-spec =
@@ -69,9 +86,11 @@ allocate-spec =
     allocate-refusal-requires
     refused-requires
     returns
-    begin-requires
     turned-requires
     refused-requires-2
     returns-2
-    matched-requires
-    returns-3)
+    none-left-requires
+    returns-3
+    phase-after-requires
+    push-requires
+    returns-4)

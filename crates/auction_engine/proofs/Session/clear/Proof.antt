@@ -54,12 +54,9 @@ returns-2 c =
     let a = entry f .args in
     refused-answer (a .self) (call.clear (a .now)) (f .compute-clear .result .refusal) (number-found f) (c .refused2 .result) (c .refused2 .ensures) (c .before .if2 .taken)
 
-clear-events-requires : tie.Need-clear-events-requires
-clear-events-requires c κs = search needs
-
 cleared-by-requires : tie.Need-cleared-by-requires
 cleared-by-requires c κs =
-    let d = c .before .before .before .before .before .before .before in
+    let d = c .before .before .before .before .before .before in
     let r = d .before in
     let a = r .before .args in
     clear-within (a .self) (a .now) (sym (number r) ∙ d .if1 .left) .orders
@@ -68,11 +65,12 @@ returns-3 : tie.Need-returns-3
 unfolding effect events
 returns-3 c =
     let e = c .before in
-    let f = e .before .before .before in
+    let f = e .before .before in
     let a = entry f .args in
     let o = f .compute-clear in
-    accepted-answer (a .self) (call.clear (a .now)) (o .result .refusal) (number-found f) (c .cleared-by .result) (e .clear-events .result) (e .before .if2 .left)
-    (c .cleared-by .ensures ∙ ap (clearedBy (a .self)) (o .ensures)) (e .clear-events .ensures ∙ ap (λ x. packed (clearLines (a .self) x)) (o .ensures))
+    c .cleared-by .ensures
+    ∙ accepted-answer (a .self) (call.clear (a .now)) (o .result .refusal) (number-found f) (clearedBy (a .self) (o .result)) (packed (clearLines (a .self) (o .result))) (e .if2 .left)
+    (ap (clearedBy (a .self)) (o .ensures)) (ap (λ x. packed (clearLines (a .self) x)) (o .ensures))
 
 pub clear-spec : {M : Type 1} → statement M
 clear-spec =
@@ -84,6 +82,5 @@ clear-spec =
     compute-clear-requires
     refused-requires-2
     returns-2
-    clear-events-requires
     cleared-by-requires
     returns-3)

@@ -1,5 +1,6 @@
 -- `auction_engine::Session::order_refusal` meets its contract, by the branches.
 -- Assumes nothing.
+use native.Mathlib.Omega.{arith}
 use borrow.Author.Needs.{needs}
 use borrow.Author.Tests.{le-ltb, lt-ltb}
 use Rattle.laws.specs.Checks.{_then_, unless}
@@ -10,12 +11,6 @@ use Rattle.auction_engine.proofs.Session.order_refusal.Tie as tie
 returns : tie.Need-returns
 unfolding _then_ unless
 returns c = rw (le-ltb _ _ (c .if1 .taken))
-
-mul-o : tie.Need-mul-o
-mul-o c = search needs
-
-array-copy-out-o : tie.Need-array-copy-out-o
-array-copy-out-o c = search needs
 
 unless-requires : tie.Need-unless-requires
 unless-requires c κs = search needs
@@ -36,8 +31,9 @@ returns-2 : tie.Need-returns-2
 returns-2 c =
     let u = c .before .before in
     let v = u .before .before in
-    let d = v .before .before .before .before .before in
-    rw (c .first-of2 .ensures, c .before .first-of .ensures, u .unless3 .ensures, v .unless2 .ensures, v .before .unless .ensures)
+    let d = v .before .before .before in
+    let p = d .before .before .pre in
+    rw (c .first-of2 .ensures, c .before .first-of .ensures, u .unless3 .ensures, v .unless2 .ensures, v .before .unless .ensures, p .1 (omega (arith, p .0, d .if1 .left)))
     (then-pass _ _ (unless-pass _ 12 (lt-ltb _ _ (d .if1 .left))))
 
 pub order-refusal-spec : {M : Type 1} → statement M
@@ -45,8 +41,6 @@ order-refusal-spec =
     tie.close
     (tie.spec
     returns
-    mul-o
-    array-copy-out-o
     unless-requires
     unless-requires-2
     unless-requires-3

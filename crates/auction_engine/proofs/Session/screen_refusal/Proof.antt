@@ -38,7 +38,7 @@ unless-requires-2 c κs = search needs
 order-refusal-requires : tie.Need-order-refusal-requires
 order-refusal-requires c κs =
     let d = c .before .before .before .before .before in
-    checked-within (d .before .before .args .self) (sym (d .before .checked .ensures) ∙ d .if1 .left) .orders
+    (checked-within (d .before .before .args .self) (sym (d .before .checked .ensures) ∙ d .if1 .left) .orders, d .before .before .pre)
 
 first-of-requires : tie.Need-first-of-requires
 first-of-requires c κs = search needs

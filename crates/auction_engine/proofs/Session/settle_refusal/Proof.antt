@@ -28,7 +28,7 @@ unless-requires c κs = search needs
 fill-refusal-requires : tie.Need-fill-refusal-requires
 fill-refusal-requires c κs =
     let d = c .before .before in
-    checked-within (d .before .before .args .self) (sym (d .before .checked .ensures) ∙ d .if1 .left) .fills
+    (checked-within (d .before .before .args .self) (sym (d .before .checked .ensures) ∙ d .if1 .left) .fills, d .before .before .pre)
 
 first-of-requires : tie.Need-first-of-requires
 first-of-requires c κs = search needs

@@ -32,7 +32,7 @@ unless-requires-2 c κs = search needs
 fill-refusal-requires : tie.Need-fill-refusal-requires
 fill-refusal-requires c κs =
     let d = c .before .before .before in
-    checked-within (d .before .before .args .self) (sym (d .before .checked .ensures) ∙ d .if1 .left) .fills
+    (checked-within (d .before .before .args .self) (sym (d .before .checked .ensures) ∙ d .if1 .left) .fills, d .before .before .pre)
 
 unless-requires-3 : tie.Need-unless-requires-3
 unless-requires-3 c κs = search needs

@@ -2,7 +2,7 @@
 -- Assumes nothing.
 use borrow.Author.Needs.{needs}
 use Rattle.session_file.specs.Records.{header}
-use Rattle.session_file.specs.Runner.{readRefusal}
+use Rattle.session_file.specs.Runner.{readRefusal, runnerAt}
 use Rattle.session_file.proofs.Turns.{took-stop, took-on}
 use Rattle.session_file.proofs.runner.header_turn.Statement.{statement}
 use Rattle.session_file.proofs.runner.header_turn.Tie as tie
@@ -18,7 +18,7 @@ unfolding readRefusal
 returns c =
     let a = c .before .before .before .args in
     let h = c .before .before .header-refusal in
-    took-stop (a .r) (a .end) (a .next) (header (a .p) (a .g)) (h .result) (h .ensures) (c .before .if1 .taken) (c .stop .ensures)
+    took-stop (runnerAt (a .spot) (a .session)) (a .end) (a .next) (header (a .p) (a .g)) (h .result) (h .ensures) (c .before .if1 .taken) (c .stop .ensures)
 
 new-requires : tie.Need-new-requires
 new-requires c κs = search needs
@@ -26,17 +26,14 @@ new-requires c κs = search needs
 opened-requires : tie.Need-opened-requires
 opened-requires c κs = search needs
 
-go-on-requires : tie.Need-go-on-requires
-go-on-requires c κs = search needs
-
 returns-2 : tie.Need-returns-2
 unfolding readRefusal
 returns-2 c =
-    let j = c .before .before .before .before .before in
-    let a = j .args in
-    let h = c .before .before .before .before .header-refusal in
-    took-on (a .r) (a .end) (a .next) (header (a .p) (a .g)) (h .result) (h .ensures) (c .before .before .before .if1 .left)
-    (rw (c .before .before .new .ensures, c .before .opened .ensures) at (c .go-on .ensures))
+    let d = c .before .before in
+    let a = d .before .before .args in
+    let h = d .before .header-refusal in
+    took-on (runnerAt (a .spot) (a .session)) (a .end) (a .next) (header (a .p) (a .g)) (h .result) (h .ensures) (d .if1 .left)
+    (rw (c .before .new .ensures, c .opened .ensures))
 
 pub header-turn-spec : {M : Type 1} → statement M
 header-turn-spec =
@@ -47,5 +44,4 @@ header-turn-spec =
     returns
     new-requires
     opened-requires
-    go-on-requires
     returns-2)

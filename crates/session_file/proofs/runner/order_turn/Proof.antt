@@ -4,7 +4,7 @@ use mathlib.Core.Path.{sym, _∙_}
 use borrow.Author.Needs.{needs}
 use borrow.Author.Tests.{lt-ltb}
 use Rattle.session_file.specs.Records.{order}
-use Rattle.session_file.specs.Runner.{readRefusal}
+use Rattle.session_file.specs.Runner.{readRefusal, runnerAt}
 use Rattle.session_file.proofs.Orders.{order-room}
 use Rattle.session_file.proofs.Turns.{took-stop, took-on}
 use Rattle.session_file.proofs.runner.order_turn.Statement.{statement}
@@ -19,9 +19,9 @@ stop-requires c κs = search needs
 returns : tie.Need-returns
 unfolding readRefusal
 returns c =
-    let a = c .before .before .before .before .args in
+    let a = c .before .before .before .args in
     let h = c .before .before .order-refusal in
-    took-stop (a .r) (a .end) (a .next) (order (a .row)) (h .result) (h .ensures) (c .before .if1 .taken) (c .stop .ensures)
+    took-stop (runnerAt (a .spot) (a .session)) (a .end) (a .next) (order (a .row)) (h .result) (h .ensures) (c .before .if1 .taken) (c .stop .ensures)
 
 with-order-requires : tie.Need-with-order-requires
 with-order-requires c κs = search needs
@@ -29,18 +29,15 @@ with-order-requires c κs = search needs
 ordered-requires : tie.Need-ordered-requires
 ordered-requires c κs = search needs
 
-go-on-requires : tie.Need-go-on-requires
-go-on-requires c κs = search needs
-
 returns-2 : tie.Need-returns-2
 unfolding readRefusal
 returns-2 c =
-    let j = c .before .before .before .before .before .before in
-    let a = j .args in
-    let h = c .before .before .before .before .order-refusal in
-    let room = order-room (a .r .session) (a .row) (sym (h .ensures) ∙ c .before .before .before .if1 .left) in
-    took-on (a .r) (a .end) (a .next) (order (a .row)) (h .result) (h .ensures) (c .before .before .before .if1 .left)
-    (rw (c .before .before .with-order .ensures, lt-ltb _ _ room, c .before .ordered .ensures) at (c .go-on .ensures))
+    let d = c .before .before in
+    let a = d .before .before .args in
+    let h = d .before .order-refusal in
+    let room = order-room (a .session) (a .row) (sym (h .ensures) ∙ d .if1 .left) in
+    took-on (runnerAt (a .spot) (a .session)) (a .end) (a .next) (order (a .row)) (h .result) (h .ensures) (d .if1 .left)
+    (rw (c .before .with-order .ensures, lt-ltb _ _ room, c .ordered .ensures))
 
 pub order-turn-spec : {M : Type 1} → statement M
 order-turn-spec =
@@ -51,5 +48,4 @@ order-turn-spec =
     returns
     with-order-requires
     ordered-requires
-    go-on-requires
     returns-2)

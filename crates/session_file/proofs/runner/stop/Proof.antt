@@ -7,11 +7,8 @@ use Rattle.session_file.proofs.runner.stop.Tie as tie
 refused-requires : tie.Need-refused-requires
 refused-requires c κs = search needs
 
-go-on-requires : tie.Need-go-on-requires
-go-on-requires c κs = search needs
-
 returns : tie.Need-returns
-returns c = rw (c .go-on .ensures, c .before .refused .ensures)
+returns c = rw (c .refused .ensures)
 
 pub stop-spec : {M : Type 1} → statement M
-stop-spec = tie.close (tie.spec refused-requires go-on-requires returns)
+stop-spec = tie.close (tie.spec refused-requires returns)

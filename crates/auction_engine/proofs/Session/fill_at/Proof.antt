@@ -1,0 +1,25 @@
+-- `auction_engine::Session::fill_at` meets its contract, by the branches.
+-- Assumes nothing.
+use native.Mathlib.Omega.{arith}
+use borrow.Author.Needs.{needs}
+use Rattle.auction_engine.proofs.Session.fill_at.Statement.{statement}
+use Rattle.auction_engine.proofs.Session.fill_at.Tie as tie
+
+mul-result : tie.Need-mul-result
+mul-result c = search needs
+
+array-copy-out-result : tie.Need-array-copy-out-result
+array-copy-out-result c = search needs
+
+returns : tie.Need-returns
+returns c = search needs
+
+array-copy-out-result-2 : tie.Need-array-copy-out-result-2
+array-copy-out-result-2 c = search needs
+
+returns-2 : tie.Need-returns-2
+returns-2 c h = absurd (omega (arith, h, c .before .if1 .left))
+
+pub fill-at-spec : {M : Type 1} → statement M
+fill-at-spec =
+    tie.close (tie.spec mul-result array-copy-out-result returns array-copy-out-result-2 returns-2)

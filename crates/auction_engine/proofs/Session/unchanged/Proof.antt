@@ -1,0 +1,17 @@
+-- `auction_engine::Session::unchanged` meets its contract, from that of `standing`.
+-- Assumes nothing.
+use borrow.Author.Needs.{needs}
+use Rattle.auction_engine.proofs.Session.unchanged.Statement.{statement}
+use Rattle.auction_engine.proofs.Session.unchanged.Tie as tie
+
+none-requires : tie.Need-none-requires
+none-requires c κs = search needs
+
+standing-requires : tie.Need-standing-requires
+standing-requires c κs = search needs
+
+returns : tie.Need-returns
+returns c = rw (c .standing .ensures, c .before .none .ensures)
+
+pub unchanged-spec : {M : Type 1} → statement M
+unchanged-spec = tie.close (tie.spec none-requires standing-requires returns)

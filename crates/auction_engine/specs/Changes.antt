@@ -1,0 +1,97 @@
+-- What a call writes that makes no fill and gives no lot: some numbers, one order and one fill.
+use mathlib.Core.Bool.{Bool, true, false, cond}
+use mathlib.Core.List.{[]}
+use Prim.Native.Nat.{ℕ}
+use lib.Dec.{eqb, leb}
+use lib.ListN.{set}
+use Rattle.laws.specs.Checks.{_then_}
+use Rattle.book.specs.declared.Order.{Order}
+use Rattle.book.specs.declared.Fill.{Fill}
+use Rattle.events.specs.Events.{few, inFew, packed}
+use Rattle.events.specs.declared.Few.{Few}
+use Rattle.auction_engine.specs.declared.Session.{Session}
+use Rattle.auction_engine.specs.declared.Answer.{Answer}
+use Rattle.auction_engine.specs.declared.CallRecord.{CallRecord}
+use Rattle.auction_engine.specs.declared.changes.Change.{Change}
+use Rattle.auction_engine.specs.Session.{orderAt, fillAt}
+use Rattle.auction_engine.specs.Call.{Call, screen, clear, allocate, exercise, close, settle, skip, finish, expire, limitsRefusal, fieldsRefusal}
+use Rattle.auction_engine.specs.Screening.{exclusionOf, screenedAs}
+use Rattle.auction_engine.specs.Clearing.{clearChecks}
+use Rattle.auction_engine.specs.Matching.{allocateChecks}
+use Rattle.auction_engine.specs.Settlement.{asSettled}
+use Rattle.auction_engine.specs.Engine.{refusal, effect, events, callOf}
+
+-- the numbers of a session t, order o at place i, fill f at place j, and what is said
+abbrev pub writing : Session → (whole : Bool) (i : ℕ) → Order → (j : ℕ) → Fill → (refusal : ℕ) → Few → Change
+writing t whole i o j f refusal es =
+    record {
+      whole = whole;
+      refusal = refusal;
+      phase = t .phase;
+      «fills_settled» = t .«fills_settled»;
+      «skipped_fills» = t .«skipped_fills»;
+      «order_at» = i;
+      order = o;
+      «order_count» = t .«order_count»;
+      «fill_at» = j;
+      fill = f;
+      events = es;
+    }
+
+-- nothing is written that does not stand already at the first order and the first fill
+abbrev pub standing : Session → (refusal : ℕ) → Few → Change
+standing s refusal es = writing s false 0 (orderAt s 0) 0 (fillAt s 0) refusal es
+
+-- a refused call changes nothing
+abbrev pub unchanged : Session → (refusal : ℕ) → Change
+unchanged s refusal = standing s refusal (few [])
+
+-- a call that changes more: what refuses it before it is worked out; where nothing does, it is left to the whole session
+abbrev pub early : Session → (refusal : ℕ) → Change
+early s refusal = writing s (eqb refusal 0) 0 (orderAt s 0) 0 (fillAt s 0) refusal (few [])
+
+-- a call whose effect writes order o at place i and fill f at place j, and some numbers
+abbrev pub changeAt : Session → Call → (i : ℕ) → Order → (j : ℕ) → Fill → Change
+changeAt s c i o j f = cond (eqb (refusal s c) 0) (writing (effect s c) false i o j f 0 (few (events s c))) (unchanged s (refusal s c))
+
+-- a call whose effect writes numbers alone
+abbrev pub changeOfPhase : Session → Call → Change
+changeOfPhase s c = changeAt s c 0 (orderAt s 0) 0 (fillAt s 0)
+
+-- the change of a call
+unfoldable pub changeOf : Session → Call → Change
+changeOf s (screen now i side verdict hasId id) =
+    changeAt s (screen now i side verdict hasId id) i (screenedAs (orderAt s i) (exclusionOf s i verdict hasId id) hasId id) 0 (fillAt s 0)
+changeOf s (clear now) = early s (limitsRefusal s then fieldsRefusal s then clearChecks s now)
+changeOf s (allocate now n) = early s (allocateChecks s)
+changeOf s (exercise now issuer i q) = early s (refusal s (exercise now issuer i q))
+changeOf s (close now caller) = changeOfPhase s (close now caller)
+changeOf s (settle i) = changeAt s (settle i) 0 (orderAt s 0) i (asSettled (fillAt s i))
+changeOf s (skip now i reason) = changeAt s (skip now i reason) 0 (orderAt s 0) i (asSettled (fillAt s i))
+changeOf s (finish now) = changeOfPhase s (finish now)
+changeOf s (expire now) = changeOfPhase s (expire now)
+
+-- the same of a call record: a kind above 8 is an argument outside its values
+unfoldable pub changeFor : Session → CallRecord → Change
+changeFor s r = cond (leb (r .kind) 8) (changeOf s (callOf r)) (unchanged s 4)
+
+-- a session with a change written
+abbrev pub changed : Session → Change → Session
+changed s c =
+    record {
+      params = s .params;
+      given = s .given;
+      cleared = s .cleared;
+      phase = c .phase;
+      «rofr_qty» = s .«rofr_qty»;
+      «fills_settled» = c .«fills_settled»;
+      «skipped_fills» = c .«skipped_fills»;
+      orders = set (s .orders) (c .«order_at») (c .order);
+      «order_count» = c .«order_count»;
+      fills = set (s .fills) (c .«fill_at») (c .fill);
+      «fill_count» = s .«fill_count»;
+    }
+
+-- what a change that is not left to the whole session is answered as
+abbrev pub madeOf : Session → Change → Answer
+madeOf s c = record { refusal = c .refusal; session = changed s c; events = packed (inFew (c .events)) }
