@@ -14,14 +14,13 @@ use Rattle.laws.proofs.Tests.{tested}
 use Rattle.credit_math.specs.Limits.{maxOrders}
 use Rattle.book.specs.Limits.{maxFills}
 use Rattle.book.specs.Book.{noOrder, noFill}
-use Rattle.events.specs.Events.{few, inFew, packed}
+use Rattle.events.specs.Events.{few, packed}
 use Rattle.book.specs.declared.Order.{Order}
 use Rattle.book.specs.declared.Fill.{Fill}
 use Rattle.events.specs.declared.Few.{Few}
 use Rattle.events.specs.declared.Event.the-variants.{OrderScreened, FillSettled, PhaseChanged}
 use Rattle.events.proofs.Packed.{in-few}
 use Rattle.auction_engine.specs.declared.Session.{Session}
-use Rattle.auction_engine.specs.declared.Answer.{Answer}
 use Rattle.auction_engine.specs.declared.CallRecord.{CallRecord}
 use Rattle.auction_engine.specs.declared.changes.Change.{Change}
 use Rattle.auction_engine.specs.Call.{Call, screen, clear, allocate, exercise, close, settle, skip, finish, expire}

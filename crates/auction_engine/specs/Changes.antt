@@ -1,5 +1,6 @@
--- What a call writes that makes no fill and gives no lot: some numbers, one order and one fill.
-use mathlib.Core.Bool.{Bool, true, false, cond}
+-- What a call writes that makes no fill and gives no lot: some numbers, one order and one fill. proofs/ shows that its change, written, is its
+-- answer in Engine.antt.
+use mathlib.Core.Bool.{Bool, false, cond}
 use mathlib.Core.List.{[]}
 use Prim.Native.Nat.{ℕ}
 use lib.Dec.{eqb, leb}

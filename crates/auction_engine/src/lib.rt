@@ -1,14 +1,11 @@
 // The auction engine from the reveal on: a session, and the nine calls on it.
 ghost use mathlib.Core.Path.{_≡_};
-ghost use mathlib.Core.Bool.{Bool, true, false, cond, not, _&&_, _||_};
+ghost use mathlib.Core.Bool.{true, false, not, _&&_, _||_};
 ghost use mathlib.Core.List.{[]};
-ghost use Prim.Native.Nat.{ℕ, _+_, _<_, _≤_};
-ghost use lib.Dec.{ltb, leb, eqb};
-ghost use lib.ListN.{length, getD};
-ghost use lib.Signed.{ltZ, leZ};
+ghost use Prim.Native.Nat.{_+_, _<_, _≤_};
+ghost use lib.Dec.{leb, eqb};
 ghost use Rattle.laws.specs.Search.{every};
 ghost use Rattle.laws.specs.Checks.{unless, _then_};
-ghost use Rattle.clock.specs.Clock.{sumFits};
 ghost use Rattle.credit_math.specs.Limits.{maxOrders};
 ghost use Rattle.book.specs.Book.{orderIn};
 ghost use Rattle.auction_engine.specs.Session.{fresh};

@@ -1,9 +1,9 @@
 // The calls `exercise_rofr` and `close_rofr`: the issuer's right of first refusal.
 ghost use mathlib.Core.Path.{_≡_};
-ghost use mathlib.Core.Bool.{Bool, true, false, cond, not, _||_};
-ghost use Prim.Native.Nat.{ℕ, _+_, _-_, _^_, _<_, _≤_, min};
-ghost use lib.Dec.{ltb, leb, eqb};
-ghost use lib.Signed.{ltZ, leZ};
+ghost use mathlib.Core.Bool.{true, not};
+ghost use Prim.Native.Nat.{_+_, _-_, _^_, _<_, _≤_, min};
+ghost use lib.Dec.{ltb, leb};
+ghost use lib.Signed.{ltZ};
 ghost use Rattle.laws.specs.Lists.{same};
 ghost use Rattle.laws.specs.Checks.{unless, _then_};
 ghost use Rattle.book.specs.Limits.{maxFills};

@@ -1,7 +1,7 @@
 // The call `screen`: one order against its gate verdict and its investor's other orders.
 ghost use mathlib.Core.Path.{_≡_};
-ghost use mathlib.Core.Bool.{Bool, true, false, cond, not, _&&_, _||_};
-ghost use Prim.Native.Nat.{ℕ, _<_, _≤_};
+ghost use mathlib.Core.Bool.{true, not, _&&_, _||_};
+ghost use Prim.Native.Nat.{_<_, _≤_};
 ghost use lib.Dec.{ltb, leb, eqb};
 ghost use Rattle.laws.specs.Lists.{same};
 ghost use Rattle.laws.specs.Checks.{unless, _then_};
@@ -9,7 +9,6 @@ ghost use Rattle.credit_math.specs.Limits.{maxOrders};
 ghost use Rattle.book.specs.Book.{noInvestor};
 ghost use Rattle.events.specs.Events.{few};
 ghost use Rattle.auction_engine.specs.Session.{orderAt};
-ghost use Rattle.auction_engine.specs.Call.{argumentsRefusal};
 ghost use Rattle.auction_engine.specs.Screening.{exclusionOf, screenedAs, screenLines};
 ghost use Rattle.auction_engine.specs.Engine.{refusal, answer};
 ghost use Rattle.auction_engine.specs.Changes.{changeOf};

@@ -1,10 +1,9 @@
 // The calls `settle`, `skip_fill`, `finish` and `expire`. Cash and notes move on the chain.
 ghost use mathlib.Core.Path.{_≡_};
-ghost use mathlib.Core.Bool.{Bool, true, false, cond, not};
+ghost use mathlib.Core.Bool.{true, false, cond, not};
 ghost use mathlib.Core.List.{[], _∷_};
-ghost use Prim.Native.Nat.{ℕ, _+_, _-_, _^_, _<_, _≤_, min};
-ghost use lib.Dec.{ltb, leb, eqb};
-ghost use lib.Signed.{leZ};
+ghost use Prim.Native.Nat.{_+_, _-_, _^_, _<_, _≤_, min};
+ghost use lib.Dec.{ltb, eqb};
 ghost use Rattle.laws.specs.Sums.{sumBelow, only};
 ghost use Rattle.wide.specs.Value.{value};
 ghost use Rattle.laws.specs.Search.{every};

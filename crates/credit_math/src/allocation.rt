@@ -1,9 +1,9 @@
 // Uniform-price clearing and pro-rata lots, on parallel slices of 64-bit numbers.
 ghost use mathlib.Core.Path.{_≡_};
 ghost use mathlib.Core.Bool.{true, false, _&&_};
-ghost use Prim.Native.Nat.{ℕ, _+_, _-_, _*_, _/_, _%_, _^_, _<_, _≤_, min};
-ghost use lib.ListN.{length, getD};
-ghost use lib.Dec.{ltb, leb, eqb};
+ghost use Prim.Native.Nat.{_+_, _-_, _/_, _<_, _≤_};
+ghost use lib.ListN.{length};
+ghost use lib.Dec.{ltb, leb};
 ghost use Rattle.laws.specs.Sums.{only};
 ghost use Rattle.laws.specs.Lists.{table};
 ghost use Rattle.laws.specs.Lex.{lex};

@@ -1,14 +1,14 @@
 // `investor_exclusion`: the checks of an order against the other live orders of its investor.
 ghost use mathlib.Core.Path.{_≡_};
-ghost use mathlib.Core.Bool.{Bool, true, false, cond, not, _&&_};
-ghost use Prim.Native.Nat.{ℕ, _+_, _<_, _≤_, min};
-ghost use lib.Dec.{ltb, leb, eqb};
-ghost use Rattle.laws.specs.Sums.{sumBelow, only};
+ghost use mathlib.Core.Bool.{true, false, not, _&&_};
+ghost use Prim.Native.Nat.{_+_, _<_, _≤_};
+ghost use lib.Dec.{eqb};
+ghost use Rattle.laws.specs.Sums.{only};
 ghost use Rattle.laws.specs.Lists.{same};
 ghost use Rattle.wide.specs.Value.{value};
 ghost use Rattle.credit_math.specs.Limits.{maxOrders};
 ghost use Rattle.book.specs.Book.{orderIn, isLive, isBuy, noInvestor};
-ghost use Rattle.investors.specs.Exclusion.{isOther, selfTrade, cashOf, investorExclusion};
+ghost use Rattle.investors.specs.Exclusion.{selfTrade, cashOf, investorExclusion};
 use book::Order;
 use credit_math::MAX_ORDERS;
 use wide::Wide;

@@ -1,8 +1,8 @@
 // `distinct_participants`: who traded, for the print.
 ghost use mathlib.Core.Path.{_≡_};
-ghost use mathlib.Core.Bool.{Bool, true, false, cond, not, _&&_};
-ghost use Prim.Native.Nat.{ℕ, _+_, _*_, _/_, _%_, _<_, _≤_, min};
-ghost use lib.Dec.{ltb, leb, eqb};
+ghost use mathlib.Core.Bool.{true, false, not, _&&_};
+ghost use Prim.Native.Nat.{_+_, _*_, _/_, _%_, _<_, _≤_, min};
+ghost use lib.Dec.{eqb};
 ghost use Rattle.laws.specs.Sums.{count};
 ghost use Rattle.laws.specs.Search.{some};
 ghost use Rattle.laws.specs.Lists.{same};

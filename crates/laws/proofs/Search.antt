@@ -1,6 +1,6 @@
 -- Laws of searches and tests below a count. Assumes nothing.
 use mathlib.Core.Path.{_≡_, refl, sym, ap, ap₂, _∙_}
-use mathlib.Core.Bool.{Bool, true, false, cond, _&&_, _||_}
+use mathlib.Core.Bool.{Bool, true, false, cond, _||_}
 use Prim.Native.Nat.{ℕ, zero, suc, _+_, _≤_, _<_}
 use native.Mathlib.Nat.{le-refl, le-step, not-suc-le-zero, le-antisymm}
 use native.Mathlib.Decide.{ℕ-discrete}

@@ -2,7 +2,7 @@
 ghost use mathlib.Core.Path.{_≡_};
 ghost use mathlib.Core.Bool.{cond};
 ghost use mathlib.Core.List.{map};
-ghost use Prim.Native.Nat.{ℕ, _+_, _*_, _%_, _≤_, min};
+ghost use Prim.Native.Nat.{_+_, _*_, _%_, _≤_, min};
 ghost use lib.Count.{ones};
 ghost use lib.Dec.{leb};
 ghost use lib.ListN.{length, take};

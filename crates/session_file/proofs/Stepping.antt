@@ -1,6 +1,6 @@
 -- A step that is not left to the whole session is the turn of its record.
 -- Assumes nothing.
-use mathlib.Core.Path.{_≡_, refl, sym, _∙_, ap}
+use mathlib.Core.Path.{_≡_, refl, sym, ap}
 use mathlib.Core.Bool.{Bool, true, false, cond, false≢true, _&&_}
 use mathlib.Core.List.{List, []}
 use Prim.Native.Nat.{ℕ, _<_}
@@ -14,7 +14,6 @@ use Rattle.book.specs.Limits.{maxFills}
 use Rattle.book.specs.Book.{noFill}
 use Rattle.book.specs.declared.Row.{Row}
 use Rattle.events.specs.Events.{few, inFew, packed}
-use Rattle.events.specs.declared.Few.{Few}
 use Rattle.listing.specs.Lines.{said, briefly}
 use Rattle.listing.proofs.Lines.{said-all}
 use Rattle.auction_engine.specs.declared.Session.{Session}
@@ -26,8 +25,8 @@ use Rattle.auction_engine.proofs.Changing.{change-applied, change-placed}
 use Rattle.session_file.specs.declared.runner.Turn.{Turn}
 use Rattle.session_file.specs.declared.runner.Spot.{Spot}
 use Rattle.session_file.specs.declared.runner.CallAt.{CallAt}
-use Rattle.session_file.specs.declared.runner.RowAt.{RowAt}
-use Rattle.session_file.specs.declared.runner.Step.{Step}
+use Rattle.session_file.specs.declared.steps.RowAt.{RowAt}
+use Rattle.session_file.specs.declared.steps.Step.{Step}
 use Rattle.session_file.specs.Runner.{saying, saidOf, runnerAt, turnAt, callAt}
 use Rattle.session_file.specs.Steps.{rowAt, briefOf, callStep, rowChange, rowStep}
 use Rattle.session_file.proofs.Orders.{order-room}

@@ -24,7 +24,7 @@ use Rattle.session_file.specs.declared.runner.Runner.{Runner}
 use Rattle.session_file.specs.declared.runner.Spot.{Spot}
 use Rattle.session_file.specs.declared.runner.Turn.{Turn}
 use Rattle.session_file.specs.declared.runner.CallAt.{CallAt}
-use Rattle.session_file.specs.declared.runner.RowAt.{RowAt}
+use Rattle.session_file.specs.declared.steps.RowAt.{RowAt}
 use Rattle.session_file.specs.Records.{Read, refused, header, order, call, kindOf, widthOf, paramsOf, givenOf, rowOf, fieldsOf, markOf, markAt, recordRefusal, readOf}
 use Rattle.session_file.specs.Runner.{saying, saidOf, readRefusal, wentOn, stopped, took, runnerAt, turnAt, callRecordAt, callAt}
 use Rattle.session_file.specs.Steps.{rowAt}

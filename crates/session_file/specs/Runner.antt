@@ -1,5 +1,5 @@
 -- A file's records in turn.
-use mathlib.Core.Bool.{Bool, true, false, cond, _&&_}
+use mathlib.Core.Bool.{false, cond, _&&_}
 use mathlib.Core.List.{List, []}
 use Prim.Native.Nat.{ℕ, _+_}
 use lib.Dec.{eqb}

@@ -1,5 +1,5 @@
 -- Records that change little: an order, and every call that is not left to the whole session. proofs/ shows that their steps are turns.
-use mathlib.Core.Bool.{Bool, true, false, cond, _&&_}
+use mathlib.Core.Bool.{true, false, cond, _&&_}
 use mathlib.Core.List.{List, []}
 use Prim.Native.Nat.{ℕ, _+_}
 use lib.Dec.{eqb}
@@ -14,8 +14,8 @@ use Rattle.auction_engine.specs.Session.{fillAt}
 use Rattle.auction_engine.specs.Opening.{orderRefusal, withOrder}
 use Rattle.auction_engine.specs.Changes.{writing, unchanged}
 use Rattle.session_file.specs.declared.runner.Spot.{Spot}
-use Rattle.session_file.specs.declared.runner.RowAt.{RowAt}
-use Rattle.session_file.specs.declared.runner.Step.{Step}
+use Rattle.session_file.specs.declared.steps.RowAt.{RowAt}
+use Rattle.session_file.specs.declared.steps.Step.{Step}
 use Rattle.session_file.specs.Records.{kindOf, widthOf, rowOf, markAt, recordRefusal}
 
 -- the order at a place, if one stands there

@@ -1,12 +1,12 @@
 // Session files: read record by record, run, and listed.
 ghost use mathlib.Core.Path.{_≡_};
 ghost use mathlib.Core.Bool.{cond, not};
-ghost use Prim.Native.Nat.{ℕ, _+_, _^_, _<_, _≤_};
+ghost use Prim.Native.Nat.{_+_, _^_, _<_, _≤_};
 ghost use lib.Dec.{eqb};
 ghost use lib.ListN.{length, replicate};
 ghost use Rattle.listing.specs.Writing.{Writes};
 ghost use Rattle.listing.specs.Lines.{endLine};
-ghost use Rattle.session_file.specs.File.{maxInput, listingFrom};
+ghost use Rattle.session_file.specs.File.{maxInput};
 ghost use Rattle.session_file.specs.Runner.{start, runnerAt, turnOf, turnAt, callAt};
 ghost use Rattle.session_file.specs.Entry.{Listed, Entered, Ran};
 use crate::runner::CallAt;
@@ -20,6 +20,7 @@ pub mod calls;
 pub mod opening;
 pub mod records;
 pub mod runner;
+pub mod steps;
 
 // The longest file.
 pub const MAX_INPUT: usize = 65536;
@@ -69,9 +70,9 @@ fn run_file(input: &[u8], out: &mut [u8]) -> Written
     while spot.at < input.len() {
         let c = runner::call_at(input, spot);
         let step = if c.stands {
-            runner::call_step(session.change(c.call), c.after)
+            steps::call_step(session.change(c.call), c.after)
         } else {
-            runner::row_step(session, runner::row_at(input, spot))
+            steps::row_step(session, steps::row_at(input, spot))
         };
         let written = if step.whole {
             let t = whole_turn(input, spot, session, c);

@@ -1,17 +1,11 @@
 // A file's records in turn.
 ghost use mathlib.Core.Path.{_≡_};
-ghost use mathlib.Core.Bool.{Bool, true, false, cond, _&&_};
-ghost use mathlib.Core.List.{[]};
-ghost use Prim.Native.Nat.{ℕ, _+_, _<_, _≤_};
-ghost use lib.Dec.{eqb};
-ghost use lib.ListN.{length, drop};
-ghost use Rattle.credit_math.specs.Limits.{maxOrders};
-ghost use Rattle.events.specs.Events.{few};
+ghost use mathlib.Core.Bool.{false};
+ghost use Prim.Native.Nat.{_+_, _<_, _≤_};
+ghost use lib.ListN.{drop};
 ghost use Rattle.auction_engine.specs.Engine.{callOf};
-ghost use Rattle.auction_engine.specs.Opening.{orderRefusal};
 ghost use Rattle.session_file.specs.Records.{header, order, call};
 ghost use Rattle.session_file.specs.Runner.{start, saying, saidOf, stopped, took, runnerAt, turnOf, turnAt, callAt};
-ghost use Rattle.session_file.specs.Steps.{rowAt, briefOf, callStep, rowChange, rowStep};
 use crate::bytes;
 use crate::calls;
 use crate::opening;
@@ -19,14 +13,10 @@ use crate::records;
 use auction_engine::Answer;
 use auction_engine::CallRecord;
 use auction_engine::Session;
-use auction_engine::changes::Change;
 use book::Given;
-use book::Order;
 use book::Params;
 use book::Row;
 use events::Events;
-use events::Few;
-use listing::Brief;
 use listing::Record;
 
 // How far a file was read, and the session there.
@@ -139,132 +129,6 @@ pub fn call_at(input: &[u8], spot: Spot) -> CallAt
     }
 }
 
-// An order of a file, and where the file goes on.
-pub struct RowAt {
-    pub stands: bool,
-    pub after: Spot,
-    pub row: Row,
-}
-
-// The order at a place, where one stands there.
-pub fn row_at(input: &[u8], spot: Spot) -> RowAt
-    ensures { λ r. ⌜ r ≡ rowAt (now (input .entry)) spot ⌝ }
-{
-    let at = spot.at;
-    let rec = rest_of(input, at);
-    let row = records::row_of(rec);
-    let refusal = records::record_refusal(rec, spot.stage);
-    if refusal != 0 {
-        return RowAt {
-            stands: false,
-            after: spot,
-            row,
-        };
-    }
-    let m = records::mark_of(bytes::u16_at(rec, 0));
-    let next = at + records::width_of(m);
-    let kind = records::kind_of(m);
-    let after = Spot { stage: 1, at: next };
-    RowAt {
-        stands: kind == 2,
-        after,
-        row,
-    }
-}
-
-// A record that changes little: what it changes, where the file goes on, and what is said of it. Any other record is left to the
-// whole session.
-pub struct Step {
-    pub whole: bool,
-    pub change: Change,
-    pub after: Spot,
-    pub said: Brief,
-}
-
-// The step of a call, from what it changes.
-pub fn call_step(change: Change, after: Spot) -> Step
-    ensures { λ r. ⌜ r ≡ callStep change after ⌝ }
-{
-    let said = brief_of(change);
-    Step {
-        whole: change.whole,
-        change,
-        after,
-        said,
-    }
-}
-
-// What a change is said as: its refusal, or its events.
-fn brief_of(change: Change) -> Brief
-    ensures { λ r. ⌜ r ≡ briefOf change ⌝ }
-{
-    if change.refusal != 0 {
-        return figure(2, change.refusal as u64);
-    }
-    let events = change.events;
-    Brief {
-        kind: 3,
-        figure: 0,
-        events,
-    }
-}
-
-// A line with a figure, and no event.
-fn figure(kind: u8, figure: u64) -> Brief
-    ensures { λ r. ⌜ r ≡ record { kind = kind; figure = figure; events = few [] } ⌝ }
-{
-    let events = Few::none();
-    Brief {
-        kind,
-        figure,
-        events,
-    }
-}
-
-// The step of an order that stands and is not refused.
-pub fn row_step(session: Session, r: RowAt) -> Step
-    ensures { λ t. ⌜ t ≡ rowStep session r ⌝ }
-{
-    let row = r.row;
-    let after = r.after;
-    if taken(session, r) {
-        let change = row_change(session, row);
-        let said = figure(1, session.order_count as u64);
-        return Step {
-            whole: false,
-            change,
-            after,
-            said,
-        };
-    }
-    let mut step = call_step(session.unchanged(0), after);
-    step.whole = true;
-    step
-}
-
-// Whether an order stands and is not refused.
-fn taken(session: Session, r: RowAt) -> bool
-    ensures { λ b. ⌜ b ≡ (r .stands && eqb (orderRefusal session (r .row)) 0) ⌝ }
-{
-    if r.stands {
-        return opening::order_refusal(session, r.row) == 0;
-    }
-    false
-}
-
-// What one order more changes.
-fn row_change(session: Session, row: Row) -> Change
-    requires { ⌜ session .«order_count» < maxOrders ⌝ }
-    ensures { λ r. ⌜ r ≡ rowChange session row ⌝ }
-{
-    let order = Order::listed(row);
-    let mut c = session.unchanged(0);
-    c.order_at = session.order_count;
-    c.order = order;
-    c.order_count = session.order_count + 1;
-    c
-}
-
 // A record at a place: the session after it, where the file goes on, and what is said of it.
 pub struct TurnAt {
     pub session: Session,
@@ -301,7 +165,7 @@ pub fn turn_at(input: &[u8], spot: Spot, session: Session) -> TurnAt
 }
 
 // What is left of a file, from a place on.
-fn rest_of(input: &[u8], at: usize) -> &[u8]
+pub fn rest_of(input: &[u8], at: usize) -> &[u8]
     ensures { λ r. ⌜ now r ≡ drop at (now (input .entry)) ⌝ }
 {
     if at <= input.len() {

@@ -1,7 +1,7 @@
 // Numbers of two 64-bit words, where the source uses u128. Internal to this repository.
 ghost use mathlib.Core.Path.{_≡_};
-ghost use Prim.Native.Nat.{ℕ, _+_, _-_, _*_, _/_, _%_, _^_, _<_, _≤_, min};
-ghost use lib.Dec.{ltb, leb, eqb};
+ghost use Prim.Native.Nat.{_+_, _-_, _*_, _/_, _%_, _^_, _<_, _≤_, min};
+ghost use lib.Dec.{ltb, eqb};
 ghost use Rattle.wide.specs.Value.{value, modulus, apart, Divided, Turn};
 
 pub struct Wide {

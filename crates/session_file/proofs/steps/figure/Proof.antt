@@ -1,8 +1,8 @@
--- `session_file::runner::figure` meets its contract, from that of an empty `Few`.
+-- `session_file::steps::figure` meets its contract, from that of an empty `Few`.
 -- Assumes nothing.
 use borrow.Author.Needs.{needs}
-use Rattle.session_file.proofs.runner.figure.Statement.{statement}
-use Rattle.session_file.proofs.runner.figure.Tie as tie
+use Rattle.session_file.proofs.steps.figure.Statement.{statement}
+use Rattle.session_file.proofs.steps.figure.Tie as tie
 
 none-requires : tie.Need-none-requires
 none-requires c κs = search needs

@@ -1,9 +1,9 @@
--- `session_file::runner::brief_of` meets its contract, by its test.
+-- `session_file::steps::brief_of` meets its contract, by its test.
 -- Assumes nothing.
 use borrow.Author.Needs.{needs}
 use borrow.Author.Tests.{eq-eqb, ne-eqb}
-use Rattle.session_file.proofs.runner.brief_of.Statement.{statement}
-use Rattle.session_file.proofs.runner.brief_of.Tie as tie
+use Rattle.session_file.proofs.steps.brief_of.Statement.{statement}
+use Rattle.session_file.proofs.steps.brief_of.Tie as tie
 
 cast-figure : tie.Need-cast-figure
 cast-figure c = search needs

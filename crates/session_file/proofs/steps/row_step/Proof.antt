@@ -1,4 +1,4 @@
--- `session_file::runner::row_step` meets its contract, by its test.
+-- `session_file::steps::row_step` meets its contract, by its test.
 -- Assumes nothing.
 use mathlib.Core.Path.{sym, _∙_}
 use lib.Dec.{eqb}
@@ -8,8 +8,8 @@ use Rattle.laws.proofs.Tests.{both}
 use Rattle.auction_engine.specs.Opening.{orderRefusal}
 use Rattle.session_file.specs.Steps.{rowStep}
 use Rattle.session_file.proofs.Orders.{order-room}
-use Rattle.session_file.proofs.runner.row_step.Statement.{statement}
-use Rattle.session_file.proofs.runner.row_step.Tie as tie
+use Rattle.session_file.proofs.steps.row_step.Statement.{statement}
+use Rattle.session_file.proofs.steps.row_step.Tie as tie
 
 taken-requires : tie.Need-taken-requires
 taken-requires c κs = search needs

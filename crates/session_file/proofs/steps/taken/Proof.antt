@@ -1,8 +1,8 @@
--- `session_file::runner::taken` meets its contract, by its test.
+-- `session_file::steps::taken` meets its contract, by its test.
 -- Assumes nothing.
 use borrow.Author.Needs.{needs}
-use Rattle.session_file.proofs.runner.taken.Statement.{statement}
-use Rattle.session_file.proofs.runner.taken.Tie as tie
+use Rattle.session_file.proofs.steps.taken.Statement.{statement}
+use Rattle.session_file.proofs.steps.taken.Tie as tie
 
 order-refusal-requires : tie.Need-order-refusal-requires
 order-refusal-requires c κs = search needs

@@ -1,8 +1,8 @@
--- `session_file::runner::call_step` meets its contract, from that of `brief_of`.
+-- `session_file::steps::call_step` meets its contract, from that of `brief_of`.
 -- Assumes nothing.
 use borrow.Author.Needs.{needs}
-use Rattle.session_file.proofs.runner.call_step.Statement.{statement}
-use Rattle.session_file.proofs.runner.call_step.Tie as tie
+use Rattle.session_file.proofs.steps.call_step.Statement.{statement}
+use Rattle.session_file.proofs.steps.call_step.Tie as tie
 
 brief-of-requires : tie.Need-brief-of-requires
 brief-of-requires c κs = search needs

@@ -1,9 +1,9 @@
--- `session_file::runner::row_change` meets its contract, from those of the parts.
+-- `session_file::steps::row_change` meets its contract, from those of the parts.
 -- Assumes nothing.
 use borrow.Author.Needs.{needs}
 use Rattle.auction_engine.specs.Opening.{withOrder}
-use Rattle.session_file.proofs.runner.row_change.Statement.{statement}
-use Rattle.session_file.proofs.runner.row_change.Tie as tie
+use Rattle.session_file.proofs.steps.row_change.Statement.{statement}
+use Rattle.session_file.proofs.steps.row_change.Tie as tie
 
 listed-requires : tie.Need-listed-requires
 listed-requires c κs = search needs

@@ -1,11 +1,11 @@
--- `session_file::runner::row_at` meets its contract: refused or read.
+-- `session_file::steps::row_at` meets its contract: refused or read.
 -- Assumes nothing.
 use native.Mathlib.Omega.{arith}
 use borrow.Author.Needs.{needs}
 use Rattle.session_file.specs.Runner.{start, runnerAt}
 use Rattle.session_file.proofs.Turns.{next-within, row-none, row-some}
-use Rattle.session_file.proofs.runner.row_at.Statement.{statement}
-use Rattle.session_file.proofs.runner.row_at.Tie as tie
+use Rattle.session_file.proofs.steps.row_at.Statement.{statement}
+use Rattle.session_file.proofs.steps.row_at.Tie as tie
 
 rest-of-requires : tie.Need-rest-of-requires
 rest-of-requires c κs = search needs
