@@ -1,20 +1,24 @@
--- The checks of an order in the two stages in which the code finds them, and the room that an accepted order has.
+-- The checks of an order in the two stages in which the code finds them, the room that an accepted order has, and what it changes.
 -- Assumes nothing.
 use mathlib.Core.Path.{_≡_, sym, _∙_}
 use mathlib.Core.Logic.{_≢_}
 use mathlib.Core.Bool.{cond, not, _&&_}
 use Prim.Native.Nat.{ℕ, _<_}
 use lib.Dec.{ltb, leb, eqb}
+use lib.Seq.{set-getD}
 use borrow.Author.Tests.{ltb-true}
 use Rattle.laws.specs.Search.{some}
 use Rattle.laws.specs.Lists.{same}
 use Rattle.laws.specs.Checks.{unless, _then_}
 use Rattle.laws.proofs.Checks.{then-zero, then-stop, then-pass, then-assoc, unless-zero}
 use Rattle.credit_math.specs.Limits.{maxOrders}
+use Rattle.book.specs.Book.{noFill}
 use Rattle.book.specs.declared.Row.{Row}
 use Rattle.auction_engine.specs.declared.Session.{Session}
 use Rattle.auction_engine.specs.Session.{orderAt}
-use Rattle.auction_engine.specs.Opening.{orderRefusal}
+use Rattle.auction_engine.specs.Opening.{orderRefusal, withOrder}
+use Rattle.auction_engine.specs.Changes.{changed}
+use Rattle.session_file.specs.Steps.{rowChange}
 
 module _ (s : Session) (row : Row) where
   -- all but the owner, and the owner
@@ -43,3 +47,8 @@ module _ (s : Session) (row : Row) where
 
   pub order-room : orderRefusal s row ≡ 0 → s .«order_count» < maxOrders
   order-room z = row-room (then-zero rowChecks ownerCheck (in-stages ∙ z) .0)
+
+  -- what it changes, written, is one order more
+  pub row-written : changed s (rowChange s row) ≡ withOrder s row
+  unfolding withOrder
+  row-written = rw (set-getD (s .fills) 0 noFill)

@@ -6,13 +6,10 @@ use mathlib.Core.List.{List, []}
 use Prim.Native.Nat.{ℕ, _<_}
 use native.Mathlib.Omega.{arith}
 use lib.Dec.{eqb}
-use lib.Seq.{set-getD}
 use borrow.Author.Tests.{eqb-true}
 use Rattle.laws.proofs.Tests.{both}
 use Rattle.credit_math.specs.Limits.{maxOrders}
 use Rattle.book.specs.Limits.{maxFills}
-use Rattle.book.specs.Book.{noFill}
-use Rattle.book.specs.declared.Row.{Row}
 use Rattle.events.specs.Events.{few, inFew, packed}
 use Rattle.listing.specs.Lines.{said, briefly}
 use Rattle.listing.proofs.Lines.{said-all}
@@ -29,7 +26,7 @@ use Rattle.session_file.specs.declared.steps.RowAt.{RowAt}
 use Rattle.session_file.specs.declared.steps.Step.{Step}
 use Rattle.session_file.specs.Runner.{saying, saidOf, runnerAt, turnAt, callAt}
 use Rattle.session_file.specs.Steps.{rowAt, briefOf, callStep, rowChange, rowStep}
-use Rattle.session_file.proofs.Orders.{order-room}
+use Rattle.session_file.proofs.Orders.{order-room, row-written}
 use Rattle.session_file.proofs.Turns.{call-reads, row-reads}
 
 -- what a step comes to, from a place and a session
@@ -64,11 +61,6 @@ step-call s p x {c} is h {d} change step w =
       order-placed = rw change (placed .0);
       fill-placed = rw change (placed .1);
     })
-
--- one order more, written
-row-written : (x : Session) (row : Row) → changed x (rowChange x row) ≡ withOrder x row
-unfolding withOrder
-row-written x row = rw (set-getD (x .fills) 0 noFill)
 
 row-stepped : (s : List ℕ) (p : Spot) (x : Session) {r : RowAt} → r ≡ rowAt s p → r .stands ≡ true → orderRefusal x (r .row) ≡ 0
     → Stepped s p x (record { whole = false; change = rowChange x (r .row); after = r .after; said = record { kind = 1; figure = x .«order_count»; events = few [] } })

@@ -1,7 +1,7 @@
 // The rows `SH` and `OR`: what opens a session.
 ghost use mathlib.Core.Path.{_≡_};
-ghost use mathlib.Core.Bool.{Bool, true, false, cond, not, _&&_, _||_};
-ghost use Prim.Native.Nat.{ℕ, _+_, _<_, _≤_};
+ghost use mathlib.Core.Bool.{true, false, cond, not, _&&_, _||_};
+ghost use Prim.Native.Nat.{_+_, _<_, _≤_};
 ghost use lib.Dec.{ltb, leb, eqb};
 ghost use lib.IntN.{pos, _+ℤ_};
 ghost use lib.Signed.{ltZ, leZ};
@@ -11,9 +11,12 @@ ghost use Rattle.laws.specs.Checks.{unless, _then_};
 ghost use Rattle.clock.specs.Clock.{sumFits};
 ghost use Rattle.credit_math.specs.Limits.{maxOrders};
 ghost use Rattle.book.specs.Book.{orderIn, noWallet};
-ghost use Rattle.auction_engine.specs.Opening.{headerRefusal, orderRefusal, withOrder};
+ghost use Rattle.auction_engine.specs.Opening.{headerRefusal, orderRefusal};
+ghost use Rattle.auction_engine.specs.Changes.{unchanged};
+ghost use Rattle.session_file.specs.Steps.{rowChange};
 use auction_engine::Session;
 use auction_engine::both;
+use auction_engine::changes::Change;
 use auction_engine::either;
 use auction_engine::first_of;
 use auction_engine::unless;
@@ -128,17 +131,17 @@ fn owner_seen(orders: [Order; Session::MAX_ORDERS], n: usize, owner: [u8; 32]) -
     false
 }
 
-// One order more, where there is room; else the session as it was.
-pub fn with_order(s: Session, row: Row) -> Session
-    ensures { λ r. ⌜ r ≡ cond (ltb (s .«order_count») maxOrders) (withOrder s row) s ⌝ }
+// What one order more changes, where there is room; else nothing.
+pub fn row_change(s: Session, row: Row) -> Change
+    ensures { λ r. ⌜ r ≡ cond (ltb (s .«order_count») maxOrders) (rowChange s row) (unchanged s 0) ⌝ }
 {
     let at = s.order_count;
+    let mut c = s.unchanged(0);
     if at < Session::MAX_ORDERS {
-        let order = Order::listed(row);
-        let mut next = s;
-        next.orders[at] = order;
-        next.order_count = at + 1;
-        return next;
+        c.order_at = at;
+        c.order = Order::listed(row);
+        c.order_count = at + 1;
+        return c;
     }
-    s
+    c
 }

@@ -197,9 +197,11 @@ fn order_turn(session: Session, spot: Spot, end: usize, next: usize, row: Row) -
     if refusal != 0 {
         return stop(session, spot, end, refusal);
     }
+    let a = session.made(opening::row_change(session, row));
+    let more = a.session;
     let after = Spot { stage: 1, at: next };
     TurnAt {
-        session: opening::with_order(session, row),
+        session: more,
         after,
         said: ordered(session.order_count as u64),
     }

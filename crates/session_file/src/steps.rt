@@ -2,12 +2,10 @@
 ghost use mathlib.Core.Path.{_≡_};
 ghost use mathlib.Core.Bool.{_&&_};
 ghost use mathlib.Core.List.{[]};
-ghost use Prim.Native.Nat.{_<_};
 ghost use lib.Dec.{eqb};
-ghost use Rattle.credit_math.specs.Limits.{maxOrders};
 ghost use Rattle.events.specs.Events.{few};
 ghost use Rattle.auction_engine.specs.Opening.{orderRefusal};
-ghost use Rattle.session_file.specs.Steps.{rowAt, briefOf, callStep, rowChange, rowStep};
+ghost use Rattle.session_file.specs.Steps.{rowAt, briefOf, callStep, rowStep};
 use crate::bytes;
 use crate::opening;
 use crate::records;
@@ -15,7 +13,6 @@ use crate::runner;
 use crate::runner::Spot;
 use auction_engine::Session;
 use auction_engine::changes::Change;
-use book::Order;
 use book::Row;
 use events::Few;
 use listing::Brief;
@@ -109,7 +106,7 @@ pub fn row_step(session: Session, r: RowAt) -> Step
     let row = r.row;
     let after = r.after;
     if taken(session, r) {
-        let change = row_change(session, row);
+        let change = opening::row_change(session, row);
         let said = figure(1, session.order_count as u64);
         return Step {
             whole: false,
@@ -131,17 +128,4 @@ fn taken(session: Session, r: RowAt) -> bool
         return opening::order_refusal(session, r.row) == 0;
     }
     false
-}
-
-// What one order more changes.
-fn row_change(session: Session, row: Row) -> Change
-    requires { ⌜ session .«order_count» < maxOrders ⌝ }
-    ensures { λ r. ⌜ r ≡ rowChange session row ⌝ }
-{
-    let order = Order::listed(row);
-    let mut c = session.unchanged(0);
-    c.order_at = session.order_count;
-    c.order = order;
-    c.order_count = session.order_count + 1;
-    c
 }

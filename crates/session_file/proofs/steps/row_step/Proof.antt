@@ -3,7 +3,7 @@
 use mathlib.Core.Path.{sym, _∙_}
 use lib.Dec.{eqb}
 use borrow.Author.Needs.{needs}
-use borrow.Author.Tests.{eqb-true}
+use borrow.Author.Tests.{eqb-true, lt-ltb}
 use Rattle.laws.proofs.Tests.{both}
 use Rattle.auction_engine.specs.Opening.{orderRefusal}
 use Rattle.session_file.specs.Steps.{rowStep}
@@ -15,11 +15,7 @@ taken-requires : tie.Need-taken-requires
 taken-requires c κs = search needs
 
 row-change-requires : tie.Need-row-change-requires
-row-change-requires c κs =
-    let k = c .before in
-    let a = k .before .before .before .args in
-    let t = both (a .r .stands) (eqb (orderRefusal (a .session) (a .r .row)) 0) (sym (k .taken .ensures) ∙ c .if1 .taken) in
-    order-room (a .session) (a .r .row) (eqb-true _ 0 (t .1))
+row-change-requires c κs = search needs
 
 figure-requires : tie.Need-figure-requires
 figure-requires c κs = search needs
@@ -28,7 +24,11 @@ returns : tie.Need-returns
 unfolding rowStep
 returns c =
     let i = c .before .before in
-    rw (c .figure .ensures, c .before .row-change .ensures, sym (i .before .taken .ensures) ∙ i .if1 .taken)
+    let a = i .before .before .before .before .args in
+    let test = sym (i .before .taken .ensures) ∙ i .if1 .taken in
+    let t = both (a .r .stands) (eqb (orderRefusal (a .session) (a .r .row)) 0) test in
+    let room = order-room (a .session) (a .r .row) (eqb-true _ 0 (t .1)) in
+    rw (c .figure .ensures, c .before .row-change .ensures, lt-ltb _ _ room, test)
 
 unchanged-requires : tie.Need-unchanged-requires
 unchanged-requires c κs = search needs
