@@ -9,6 +9,22 @@ use book::Params;
 use session_file::bytes;
 ghost use Prim.Native.Nat.{_≤_};
 
+// The first order, and the bytes of each; the count of fills, the first fill, and the bytes of each; the call.
+const ORDERS_AT: usize = 142;
+
+const ORDER: usize = 92;
+
+const COUNT_AT: usize = ORDERS_AT + ORDER * Session::MAX_ORDERS;
+
+const FILLS_AT: usize = COUNT_AT + 1;
+
+const FILL: usize = 74;
+
+const CALL_AT: usize = FILLS_AT + FILL * Session::MAX_FILLS;
+
+// A whole block.
+pub const BLOCK: usize = CALL_AT + 75;
+
 pub fn session_in(block: &[u8]) -> Session {
     let params = params_in(block);
     let given = given_in(block);
@@ -26,7 +42,7 @@ pub fn session_in(block: &[u8]) -> Session {
         orders,
         order_count: bytes::u8_at(block, 141) as usize,
         fills,
-        fill_count: bytes::u8_at(block, 1614) as usize,
+        fill_count: bytes::u8_at(block, COUNT_AT) as usize,
     }
 }
 
@@ -62,11 +78,11 @@ fn cleared_in(block: &[u8]) -> Cleared {
     }
 }
 
-fn orders_in(block: &[u8]) -> [Order; 16] {
-    let mut orders = [Order::empty(); 16];
+fn orders_in(block: &[u8]) -> [Order; Session::MAX_ORDERS] {
+    let mut orders = [Order::empty(); Session::MAX_ORDERS];
     let mut i = 0;
-    while i < 16 {
-        orders[i] = order_in(block, 142 + 92 * i);
+    while i < Session::MAX_ORDERS {
+        orders[i] = order_in(block, ORDERS_AT + ORDER * i);
         i += 1;
     }
     orders
@@ -92,11 +108,11 @@ fn order_in(block: &[u8], at: usize) -> Order
     }
 }
 
-fn fills_in(block: &[u8]) -> [Fill; 24] {
-    let mut fills = [Fill::empty(); 24];
+fn fills_in(block: &[u8]) -> [Fill; Session::MAX_FILLS] {
+    let mut fills = [Fill::empty(); Session::MAX_FILLS];
     let mut i = 0;
-    while i < 24 {
-        fills[i] = fill_in(block, 1615 + 74 * i);
+    while i < Session::MAX_FILLS {
+        fills[i] = fill_in(block, FILLS_AT + FILL * i);
         i += 1;
     }
     fills
@@ -117,20 +133,20 @@ fn fill_in(block: &[u8], at: usize) -> Fill
 }
 
 pub fn call_in(block: &[u8]) -> CallRecord {
-    let id = bytes::id_at(block, 3403);
-    let wallet = bytes::key_at(block, 3420);
+    let id = bytes::id_at(block, CALL_AT + 12);
+    let wallet = bytes::key_at(block, CALL_AT + 29);
     CallRecord {
-        kind: bytes::u8_at(block, 3391),
-        now: bytes::time_at(block, 3392),
-        order: bytes::u8_at(block, 3400),
-        side: bytes::u8_at(block, 3401),
-        verdict: bytes::u8_at(block, 3402),
-        has_id: bytes::flag_at(block, 3465),
+        kind: bytes::u8_at(block, CALL_AT),
+        now: bytes::time_at(block, CALL_AT + 1),
+        order: bytes::u8_at(block, CALL_AT + 9),
+        side: bytes::u8_at(block, CALL_AT + 10),
+        verdict: bytes::u8_at(block, CALL_AT + 11),
+        has_id: bytes::flag_at(block, CALL_AT + 74),
         id,
-        max_fills: bytes::u8_at(block, 3419),
+        max_fills: bytes::u8_at(block, CALL_AT + 28),
         wallet,
-        fill: bytes::u32_at(block, 3452),
-        qty: bytes::u64_at(block, 3456),
-        reason: bytes::u8_at(block, 3464),
+        fill: bytes::u32_at(block, CALL_AT + 61),
+        qty: bytes::u64_at(block, CALL_AT + 65),
+        reason: bytes::u8_at(block, CALL_AT + 73),
     }
 }

@@ -1,13 +1,10 @@
 // One call on any session at all, also on those that no file leads to: for the comparison with the source.
-// Standard input holds blocks of BLOCK bytes, a session and a call each; for each a line is written: the refusal, the events joined by ';', and
+// Standard input holds blocks of `image::BLOCK` bytes, a session and a call each; for each a line is written: the refusal, the events joined by ';', and
 // the session in words.
 use libc::STDIN_FILENO;
 
 mod image;
 mod text;
-
-// 92 of the header, 50 more of the session, 16 orders of 92, the count of fills, 24 fills of 74, 75 of the call.
-const BLOCK: usize = 3466;
 
 // More blocks than any comparison sends: every program ends.
 const MOST: u64 = 10_000_000;
@@ -24,8 +21,8 @@ fn main() {
 
 // The next block, if there is a whole one.
 fn next() -> bool {
-    let mut block = [0u8; BLOCK];
-    if io::read_full(STDIN_FILENO, &mut block) < BLOCK {
+    let mut block = [0u8; image::BLOCK];
+    if io::read_full(STDIN_FILENO, &mut block) < image::BLOCK {
         return false;
     }
     run(&block);

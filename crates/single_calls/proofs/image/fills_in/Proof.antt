@@ -2,14 +2,15 @@
 -- Assumes nothing.
 use Prim.Native.Nat.{_≤_, _-_}
 use borrow.Author.Needs.{needs}
+use Rattle.book.specs.Limits.{maxFills}
 use Rattle.single_calls.proofs.image.fills_in.Statement.{statement}
 use Rattle.single_calls.proofs.image.fills_in.Tie as tie
 
 abbrev Inv-loop : tie.InvT-loop
-Inv-loop block fills₀ i₀ fills i = i ≤ 24
+Inv-loop block fills₀ i₀ fills i = i ≤ maxFills
 
 abbrev μ-loop : tie.MeasureT-loop
-μ-loop block fills₀ i₀ fills i = 24 - i
+μ-loop block fills₀ i₀ fills i = maxFills - i
 
 empty-requires : tie.Need-empty-requires Inv-loop μ-loop
 empty-requires c κs = search needs

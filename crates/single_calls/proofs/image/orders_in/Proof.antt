@@ -2,14 +2,15 @@
 -- Assumes nothing.
 use Prim.Native.Nat.{_≤_, _-_}
 use borrow.Author.Needs.{needs}
+use Rattle.credit_math.specs.Limits.{maxOrders}
 use Rattle.single_calls.proofs.image.orders_in.Statement.{statement}
 use Rattle.single_calls.proofs.image.orders_in.Tie as tie
 
 abbrev Inv-loop : tie.InvT-loop
-Inv-loop block orders₀ i₀ orders i = i ≤ 16
+Inv-loop block orders₀ i₀ orders i = i ≤ maxOrders
 
 abbrev μ-loop : tie.MeasureT-loop
-μ-loop block orders₀ i₀ orders i = 16 - i
+μ-loop block orders₀ i₀ orders i = maxOrders - i
 
 empty-requires : tie.Need-empty-requires Inv-loop μ-loop
 empty-requires c κs = search needs

@@ -2,14 +2,15 @@
 -- Assumes nothing.
 use Prim.Native.Nat.{_≤_, _-_}
 use borrow.Author.Needs.{needs}
+use Rattle.book.specs.Limits.{maxFills}
 use Rattle.single_calls.proofs.text.put_fills.Statement.{statement}
 use Rattle.single_calls.proofs.text.put_fills.Tie as tie
 
 abbrev Inv-loop : tie.InvT-loop
-Inv-loop s fills i₀ i = i ≤ 24
+Inv-loop s fills i₀ i = i ≤ maxFills
 
 abbrev μ-loop : tie.MeasureT-loop
-μ-loop s fills i₀ i = 24 - i
+μ-loop s fills i₀ i = maxFills - i
 
 loop-holds : tie.Need-loop-holds Inv-loop μ-loop
 loop-holds c = search needs

@@ -2,14 +2,15 @@
 -- Assumes nothing.
 use Prim.Native.Nat.{_≤_, _-_}
 use borrow.Author.Needs.{needs}
+use Rattle.credit_math.specs.Limits.{maxOrders}
 use Rattle.single_calls.proofs.text.put_orders.Statement.{statement}
 use Rattle.single_calls.proofs.text.put_orders.Tie as tie
 
 abbrev Inv-loop : tie.InvT-loop
-Inv-loop s orders i₀ i = i ≤ 16
+Inv-loop s orders i₀ i = i ≤ maxOrders
 
 abbrev μ-loop : tie.MeasureT-loop
-μ-loop s orders i₀ i = 16 - i
+μ-loop s orders i₀ i = maxOrders - i
 
 loop-holds : tie.Need-loop-holds Inv-loop μ-loop
 loop-holds c = search needs
