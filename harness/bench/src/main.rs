@@ -5,7 +5,7 @@
 mod corpus;
 mod timing;
 
-use corpus::{kinds, records, screened, Kind, NOW};
+use corpus::{courses, kinds, records, screened, Kind, FULL, NOW, SHORT, STAGES};
 use oracle::random::Random;
 use oracle::record::Call;
 use oracle::MAX_ORDERS;
@@ -20,6 +20,11 @@ fn main() {
     );
     kinds().iter().for_each(row);
     println!();
+    for (name, orders) in [SHORT, FULL] {
+        println!("a record of a stage, ns: {name:8}  {ours:>12} {source:>14}   ratio");
+        stages(orders);
+        println!();
+    }
     println!("a clear of so many orders, ns  {ours:>14} {source:>14}   ratio");
     (2..=MAX_ORDERS).step_by(2).for_each(clear);
 }
@@ -30,6 +35,22 @@ fn row(kind: &Kind) {
     let [[ours, source]] = nanoseconds([&kind.files]);
     let side = |ns: f64| format!("{:>13.0} {:>12.1}", files * 1e9 / ns, ns / all as f64);
     println!("{:22} {all:>8} {}   {}  {:>6.2}", kind.name, side(ours), side(source), source / ours);
+}
+
+/// The time of the courses up to the end of a stage, less that up to its start, for each of its records.
+fn stages(orders: usize) {
+    let courses = courses(orders);
+    let mut sets: [Vec<Vec<u8>>; STAGES.len() + 1] = Default::default();
+    for course in &courses {
+        let starts = std::iter::once(0).chain(course.ends);
+        sets.iter_mut().zip(starts).for_each(|(set, end)| set.push(course.file[..end].to_vec()));
+    }
+    let times = nanoseconds(sets.each_ref().map(Vec::as_slice));
+    for (i, stage) in STAGES.iter().enumerate() {
+        let all: usize = courses.iter().map(|course| course.records[i]).sum();
+        let [ours, source] = [0, 1].map(|side| (times[i + 1][side] - times[i][side]) / all as f64);
+        println!("{stage:>30} {ours:>14.0} {source:>14.0}  {:>6.2}", source / ours);
+    }
 }
 
 /// The time of a file that ends with a clear, less that of the same file without.
