@@ -6,7 +6,7 @@ use mathlib.Core.List.{List, [], _∷_, map}
 use Prim.Native.Nat.{ℕ, _<_, _≤_, min}
 use native.Mathlib.Decide.{ℕ-discrete}
 use native.Mathlib.Omega.{arith}
-use lib.Dec.{leb}
+use lib.Dec.{ltb, leb}
 use lib.ListN.{length, getD, set, replicate, length-set, length-replicate, getD-replicate, List·getD-eq-default}
 use lib.Seq.{ext-getD, getD-set-same, getD-set-other}
 use Rattle.laws.specs.Sums.{sumBelow, only, sumOf}
@@ -25,7 +25,7 @@ use Rattle.book.specs.Clear.{stored, tradesAt, sideOrders, sideLots, all
 use Rattle.book.specs.Columns.{liveAt, buyAt, limitAt, qtyAt, columnsOf, numbers, sideColumn, columnLots, lotsOf}
 use Rattle.book.specs.declared.Order.{Order}
 use Rattle.book.specs.declared.clear.Columns.{Columns}
-use Rattle.book.proofs.Live.{adding, addedAt, added-at-is, columns-total, live-orders-are, dead-order, dead-past}
+use Rattle.book.proofs.Live.{adding, addedAt, added-at-is, columns-total, live-orders-are, dead-past}
 use Rattle.book.proofs.Lots.{lots-by-number}
 
 pub length-stored : (places values into : List ℕ) → length (stored places values into) ≡ length into
@@ -216,7 +216,7 @@ module _ (orders : List Order) (n : ℕ) where
           ext-getD 0 (allocations orders n p v) (lotsOf K p v) (length-allocations ∙ sym length-lots-of)
           (λ i m. let h : i < maxOrders = rw length-allocations at m in allocations-at i h ∙ sym (lots-of-at i h))
 
-      -- no lot is above its order's quantity, and only live orders have one
+      -- no lot is above its order's quantity
       pub allocation-within : (i : ℕ) → getD (allocations orders n p v) i 0 ≤ orderIn orders i .qty
       allocation-within i =
           ⊎-elim
@@ -229,9 +229,19 @@ module _ (orders : List Order) (n : ℕ) where
       dead-none : (buys : Bool) (i : ℕ) → i < maxOrders → liveAt orders n i ≡ false → lotAt buys v i ≡ 0
       dead-none buys i h t = no-part buys i h (ap (λ (b : Bool). b && tradesAt orders n buys p i) t)
 
-      pub allocation-live : (i : ℕ) → isLive (orderIn orders i) ≡ false → getD (allocations orders n p v) i 0 ≡ 0
-      allocation-live i t =
-          ⊎-elim (λ (h : i < maxOrders). allocations-at i h ∙ dead-none (buyAt orders n i) i h (dead-order orders n i t))
+      -- an order that does not trade at p on its side has no lot
+      part-own : (i : ℕ) → part (buyAt orders n i) i ≡ (liveAt orders n i && tradesAt orders n (isBuy (orderIn orders i)) p i)
+      unfolding buyAt
+      part-own i = go (liveAt orders n i)
+        where
+          go : (live : Bool) → (live && tradesAt orders n (live && isBuy (orderIn orders i)) p i) ≡ (live && tradesAt orders n (isBuy (orderIn orders i)) p i)
+          go true = refl
+          go false = refl
+
+      pub allocation-others : (i : ℕ) → ((ltb i n && isLive (orderIn orders i)) && tradesAt orders n (isBuy (orderIn orders i)) p i) ≡ false → getD (allocations orders n p v) i 0 ≡ 0
+      unfolding liveAt
+      allocation-others i t =
+          ⊎-elim (λ (h : i < maxOrders). allocations-at i h ∙ no-part (buyAt orders n i) i h (part-own i ∙ t))
           (λ (h : maxOrders ≤ i). List·getD-eq-default (allocations orders n p v) 0 {n = i} (omega (arith, length-allocations)))
           (lt-or-le i maxOrders)
 

@@ -5,3 +5,4 @@ pub mod Lots
 pub mod Allocations
 pub mod Outcomes
 pub mod Theorems
+pub mod IdleClears

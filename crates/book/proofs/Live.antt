@@ -1,7 +1,7 @@
 -- The live orders as a list and by order number: their columns add to each side's total what the list adds. Assumes nothing.
 use mathlib.Core.Path.{_≡_, refl, sym, _∙_}
 use mathlib.Core.Logic.{_↔_}
-use mathlib.Core.Bool.{Bool, true, false, _&&_, and-false}
+use mathlib.Core.Bool.{Bool, true, false, _&&_}
 use mathlib.Core.List.{List, map}
 use Prim.Native.Nat.{ℕ, _<_, _≤_, min}
 use native.Mathlib.Omega.{arith}
@@ -65,10 +65,6 @@ module _ (orders : List Order) (n : ℕ) where
   pub dead-past : (i : ℕ) → n ≤ i → liveAt orders n i ≡ false
   unfolding liveAt
   dead-past i h = rw (le-ltb i n h)
-
-  pub dead-order : (i : ℕ) → isLive (orderIn orders i) ≡ false → liveAt orders n i ≡ false
-  unfolding liveAt
-  dead-order i t = rw t (and-false (ltb i n))
 
   pub live-is : (i : ℕ) → liveAt orders n i ≡ true → (i < n) × (isLive (orderIn orders i) ≡ true)
   unfolding liveAt

@@ -8,6 +8,7 @@ pub mod Invariant
 pub mod Ends
 pub mod Checked
 pub mod Opened
+pub mod Lotted
 pub mod Lots
 pub mod Start
 pub mod Enough
@@ -15,3 +16,6 @@ pub mod Completes
 pub mod Demand3
 pub mod Applied
 pub mod CaseL
+pub mod Demand2
+pub mod Refusals
+pub mod IdleAnswers

@@ -13,7 +13,7 @@ use Rattle.laws.proofs.Sums.{sum-same}
 use Rattle.credit_math.specs.Limits.{maxOrders}
 use Rattle.book.specs.Book.{orderIn, buySide, sellSide, isBuy}
 use Rattle.book.specs.Clear.{liveOrders, computeClear, failedBy, tooFewReveals, markUnavailable}
-use Rattle.book.specs.Claims.{Clearable, sideSum}
+use Rattle.book.specs.Claims.{Clearable, sideSum, Priced, RightClear, no-cross, too-large, has-price}
 use Rattle.book.proofs.Theorems.{clear-is-right}
 use Rattle.book.specs.declared.Order.{Order}
 use Rattle.book.specs.declared.Params.{Params}
@@ -32,6 +32,12 @@ module _ (p : Params) (g : Given) (orders : List Order) (n : ℕ) where
   clearable e =
       let h = not-failed (ltb (length (liveOrders orders n)) (p .«min_reveals»)) (not (p .forced) && not (g .mark)) _ e in
       record { enough = ltb-false _ _ (h .0); marked = h .1 }
+
+  -- a clear that is neither refused nor failed has a price
+  has-a-price : (o : Outcome) → RightClear p g orders n o → o .refusal ≡ 0 → o .failed ≡ 0 → Priced p g orders n o
+  has-a-price o (no-cross h e) r f = absurd (omega (arith, f, ap (λ (x : Outcome). x .failed) e))
+  has-a-price o (too-large q h l e) r f = absurd (omega (arith, r, ap (λ (x : Outcome). x .refusal) e))
+  has-a-price o (has-price h) r f = h
 
   -- the lots of one side added up
   abbrev pub sideLots : (side : ℕ) → ℕ
@@ -55,17 +61,17 @@ module _ (p : Params) (g : Given) (orders : List Order) (n : ℕ) where
         go (suc zero) h = refl
         go (suc (suc x)) h = absurd (omega arith)
 
-    buys : sideSum p g orders n true ≡ sideLots buySide
+    buys : sideSum p g orders n true (computeClear p g orders n .lots) ≡ sideLots buySide
     buys = rw all
 
-    sells : sideSum p g orders n false ≡ sideLots sellSide
+    sells : sideSum p g orders n false (computeClear p g orders n .lots) ≡ sideLots sellSide
     sells = rw all (sum-same _ _ n (λ i l. ap (λ (b : Bool). only b (getD (computeClear p g orders n .lots) i 0)) (not-buy i l)))
 
     pub lots-add-up : computeClear p g orders n .refusal ≡ 0 → computeClear p g orders n .failed ≡ 0 → AddUp
     lots-add-up r f =
-        let R = clear-is-right p g orders n (clearable f) in
+        let P = has-a-price (computeClear p g orders n) (clear-is-right p g orders n .right (clearable f)) r f in
         record {
-          traded = omega (arith, R .best r f .0 .some, R .best r f .1);
-          bought = sym buys ∙ R .sides r f true;
-          sold = sym sells ∙ R .sides r f false;
+          traded = omega (arith, P .best .executes .some, P .volume);
+          bought = sym buys ∙ P .lots .sides true;
+          sold = sym sells ∙ P .lots .sides false;
         }

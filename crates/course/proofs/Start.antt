@@ -3,17 +3,15 @@
 use mathlib.Core.Path.{_≡_, refl, sym, ap, _∙_, subst}
 use mathlib.Core.Bool.{Bool, true, false, cond}
 use mathlib.Core.List.{List, _∷_}
-use Prim.Native.Nat.{ℕ, zero, suc, _≤_, _<_}
-use native.Mathlib.Decide.{ℕ-discrete}
+use Prim.Native.Nat.{ℕ, _<_}
 use native.Mathlib.Omega.{arith}
 use borrow.Author.Tests.{eqb-true, eq-eqb}
 use lib.Dec.{eqb}
 use lib.IntN.{ℤ}
-use lib.ListN.{length, getD, set, length-set}
-use lib.Seq.{getD-set-same, getD-set-other}
+use lib.ListN.{getD}
 use Rattle.laws.specs.Sums.{sumOver}
 use Rattle.laws.proofs.Sums.{sum-same}
-use Rattle.book.specs.Book.{noOrder, orderIn, buySide, sellSide}
+use Rattle.book.specs.Book.{noOrder, buySide, sellSide}
 use Rattle.book.specs.Clear.{floorOf}
 use Rattle.book.specs.declared.Order.{Order}
 use Rattle.events.specs.declared.Event.{Event}
@@ -28,24 +26,9 @@ use Rattle.course.specs.Demand3.{JustCleared, after, lotOf}
 use Rattle.course.proofs.Matching.{Allotted, lotOn}
 use Rattle.course.proofs.Accepted.{limits-pass, fields-pass, early-clear, outcome-passes}
 use Rattle.course.proofs.Opened.{Unfilled, still-unfilled}
+use Rattle.course.proofs.Lotted.{lots-places, lots-at}
 use Rattle.course.proofs.Lots.{AddUp, sideLots, lots-add-up}
 use Rattle.course.proofs.Checked.{few-orders, known-sides, limits-stand, fields-stand}
-
--- the orders with their lots
-lots-places : (orders : List Order) (lots : List ℕ) (n : ℕ) → length (withLots orders lots n) ≡ length orders
-unfolding withLots
-lots-places orders lots zero = refl
-lots-places orders lots (suc n) = length-set (withLots orders lots n) n _ ∙ lots-places orders lots n
-
-lots-at : (orders : List Order) (lots : List ℕ) (n i : ℕ) → n ≤ length orders → i < n → orderIn (withLots orders lots n) i ≡ withLot (orderIn orders i) (getD lots i 0)
-unfolding withLots
-lots-at orders lots zero i h l = absurd (omega (arith, l))
-lots-at orders lots (suc n) i h l = go (ℕ-discrete i n) (lots-at orders lots n i (omega arith))
-  where
-    go : Dec (i ≡ n) → (i < n → orderIn (withLots orders lots n) i ≡ withLot (orderIn orders i) (getD lots i 0))
-        → orderIn (set (withLots orders lots n) n (withLot (orderIn orders n) (getD lots n 0))) i ≡ withLot (orderIn orders i) (getD lots i 0)
-    go (yes p) _ = rw p (getD-set-same (withLots orders lots n) n _ noOrder (omega (arith, lots-places orders lots n)))
-    go (no p) ih = getD-set-other (withLots orders lots n) n i _ noOrder p ∙ ih (omega arith)
 
 -- the `clear` line says that the clear did not fail, and its volume
 line-says : (x : Bool) (p v r m w p′ v′ r′ m′ : ℕ) (ks ms others : List Event)
@@ -67,7 +50,7 @@ clear-priced s e = rw (eq-eqb (outcome s .failed) 0 e)
 module _ (s : Session) (U : Unfilled s) (limits : limitsRefusal s ≡ 0) (fields : fieldsRefusal s ≡ 0) where
   -- an order with its lot
   order-at : (i : ℕ) → i < s .«order_count» → orderAt (priced s) i ≡ withLot (orderAt s i) (getD (outcome s .lots) i 0)
-  order-at i l = lots-at (s .orders) (outcome s .lots) (s .«order_count») i (omega (arith, few-orders s limits, U .order-places)) l
+  order-at i l = lots-at (s .orders) (outcome s .lots) (s .«order_count») i l (λ h. absurd (omega (arith, few-orders s limits, U .order-places)))
 
   side-lots : (side : ℕ) → sumOver (lotOn side) noOrder (priced s .orders) (s .«order_count») ≡ sideLots (s .params) (s .given) (s .orders) (s .«order_count») side
   unfolding sumOver

@@ -1,10 +1,11 @@
 -- What a walk keeps is the best by a strict total order, so it does not depend on the sequence of the list, or on repeats.
 -- Assumes nothing.
 use mathlib.Core.Path.{_≡_, refl, sym, _∙_, ap}
-use mathlib.Core.Logic.{_⊎_, inl, inr, ⊎-elim}
+use mathlib.Core.Logic.{_≢_, _⊎_, inl, inr, ⊎-elim}
 use mathlib.Core.Bool.{Bool, true, false}
 use mathlib.Core.List.{List, [], _∷_}
 use Prim.Native.Nat.{ℕ}
+use native.Mathlib.Decide.{ℕ-discrete}
 use Rattle.laws.specs.Lists.{Member}
 use Rattle.laws.proofs.Tests.{tested, clash, is-false}
 use Rattle.credit_math.specs.Price.{Best, none, at, improves, step, walk}
@@ -76,3 +77,21 @@ module _ (better : ℕ → ℕ → Bool)
   best-one P none (at q) h k = absurd (h q (k .0))
   best-one P (at p) none h k = absurd (k p (h .0))
   best-one P (at p) (at q) h k = ap at (total p q (k .1 p (h .0)) (h .1 q (k .0)))
+
+  -- the best is better than any other, one that is better than any other is the best, and there is one such
+  pub best-beats : (P : ℕ → Type 0) (p q : ℕ) → BestOf better P (at p) → P q → q ≢ p → better p q ≡ true
+  best-beats P p q h m ne = go (better p q) refl
+    where
+      go : (b : Bool) → better p q ≡ b → better p q ≡ true
+      go true e = e
+      go false e = absurd (ne (sym (total p q e (h .1 q m))))
+
+  pub beats-not : (p q : ℕ) → (q ≢ p → better p q ≡ true) → better q p ≡ false
+  beats-not p q f = go (ℕ-discrete q p)
+    where
+      go : Dec (q ≡ p) → better q p ≡ false
+      go (yes e) = ap (λ (x : ℕ). better x p) e ∙ irrefl p
+      go (no e) = is-false (better q p) (λ t. clash (better q q) (trans q p q t (f e)) (irrefl q))
+
+  pub beats-one : (p q : ℕ) → (q ≢ p → better p q ≡ true) → (p ≢ q → better q p ≡ true) → p ≡ q
+  beats-one p q f g = total p q (beats-not q p g) (beats-not p q f)

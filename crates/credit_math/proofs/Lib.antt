@@ -11,3 +11,4 @@ pub mod Allotting
 pub mod ProRataRefusals
 pub mod ProRataTheorems
 pub mod Examples
+pub mod IdleSearches

@@ -1,7 +1,7 @@
 -- What is proved of the definitions: proofs/PriceTheorems.antt and proofs/ProRataTheorems.antt.
 use mathlib.Core.Path.{_≡_}
-use mathlib.Core.Logic.{_↔_}
-use mathlib.Core.Bool.{Bool, false}
+use mathlib.Core.Logic.{_≢_, _↔_}
+use mathlib.Core.Bool.{Bool, true}
 use mathlib.Core.List.{List}
 use Prim.Native.Nat.{ℕ, _+_, _^_, _≤_, _<_}
 use lib.Dec.{ltb}
@@ -9,7 +9,8 @@ use lib.ListN.{length, getD}
 use Rattle.laws.specs.Sums.{count, sumOf}
 use Rattle.laws.specs.Lists.{Member}
 use Rattle.credit_math.specs.Limits.{maxOrders, sideBits, volumeBits}
-use Rattle.credit_math.specs.Price.{buy, sell, executed, better, clearPrice, priceRefusal, findUniformClearPrice, noCross, cross}
+use Rattle.credit_math.specs.Error.{badLength}
+use Rattle.credit_math.specs.Price.{buy, sell, executed, better, clearPrice, priceRefusal, findUniformClearPrice, Found, refused, noCross, cross}
 use Rattle.credit_math.specs.ProRata.{share, residue, lots}
 use Rattle.credit_math.specs.Steps.{byOrder, lot}
 
@@ -20,19 +21,30 @@ module _ (isBuy : List Bool) (limits qtys : List ℕ) where
     pub floor : reserve ≤ p
     pub some : 0 < executed isBuy limits qtys p
 
-  -- the price is right, for every reserve and reference
-  pub record RightPrice (reserve reference : ℕ) : Type 0 where
+  -- the best price: it executes something, and is better than any other that does
+  pub record BestPrice (reserve reference p : ℕ) : Type 0 where
+    pub executes : Executes reserve p
+    pub beats : (q : ℕ) → Executes reserve q → q ≢ p → better isBuy limits qtys reference p q ≡ true
+
+  -- what the search must answer, one of three
+  pub data RightPrice (reserve reference : ℕ) (answer : Found) : Type 0 where
+    -- '30 over 16 entries or lent slices of unequal length'
+    turned-away : priceRefusal isBuy limits qtys ≡ badLength → answer ≡ refused badLength → RightPrice reserve reference answer
+    -- NoCross where no candidate executes anything
+    no-cross : priceRefusal isBuy limits qtys ≡ 0 → ((p : ℕ) → Executes reserve p → ⊥) → answer ≡ noCross → RightPrice reserve reference answer
+    -- otherwise the best price, with its executed quantity
+    cross-at : priceRefusal isBuy limits qtys ≡ 0 → (p : ℕ) → BestPrice reserve reference p → answer ≡ cross p (executed isBuy limits qtys p) → RightPrice reserve reference answer
+
+  -- the search is right, for all lists, reserves and references, and no other answer would be
+  pub record PriceIsRight (reserve reference : ℕ) : Type 0 where
+    pub right : RightPrice reserve reference (findUniformClearPrice isBuy limits qtys reserve reference)
+    pub one-best : (p q : ℕ) → BestPrice reserve reference p → BestPrice reserve reference q → p ≡ q
+    pub one-answer : (a : Found) → RightPrice reserve reference a → a ≡ findUniformClearPrice isBuy limits qtys reserve reference
+    -- NoCross exactly where no candidate executes anything
+    pub no-cross-exactly : priceRefusal isBuy limits qtys ≡ 0
+        → (findUniformClearPrice isBuy limits qtys reserve reference ≡ noCross) ↔ ((p : ℕ) → Executes reserve p → ⊥)
     -- going through the orders finds what the source's walk over the sorted limits finds
     pub source : byOrder isBuy limits qtys reserve reference ≡ clearPrice isBuy limits qtys reserve reference
-    -- NoCross exactly where no candidate executes anything
-    pub no-cross : (findUniformClearPrice isBuy limits qtys reserve reference ≡ noCross) ↔ ((p : ℕ) → Executes reserve p → ⊥)
-    -- otherwise a candidate that executes, with its executed quantity, and no other that executes is better
-    pub best : (p v : ℕ) → findUniformClearPrice isBuy limits qtys reserve reference ≡ cross p v
-        → Executes reserve p × (v ≡ executed isBuy limits qtys p) × ((q : ℕ) → Executes reserve q → better isBuy limits qtys reference q p ≡ false)
-
-  -- for orders that the search does not refuse
-  abbrev pub PriceIsRight : Type 0
-  PriceIsRight = priceRefusal isBuy limits qtys ≡ 0 → (reserve reference : ℕ) → RightPrice reserve reference
 
   -- 'Side totals may reach 68 bits, the volume 67': not more, for at most maxOrders orders of 64-bit quantities
   pub record WithinBits : Type 0 where

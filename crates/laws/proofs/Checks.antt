@@ -1,11 +1,14 @@
 -- Laws of lists of checks. Assumes nothing.
 use mathlib.Core.Path.{_≡_, refl, sym, _∙_}
+use mathlib.Core.Logic.{inl, inr}
 use mathlib.Core.Bool.{Bool, true, false}
+use mathlib.Core.List.{List, _∷_}
 use Prim.Native.Nat.{ℕ, zero, suc}
 use native.Mathlib.Omega.{arith}
 use lib.Dec.{eqb·suc-zero}
 use borrow.Author.Tests.{ne-eqb, eq-eqb}
 use Rattle.laws.specs.Checks.{unless, _then_}
+use Rattle.laws.specs.Lists.{Member}
 
 -- a list that passes passes in both parts
 pub then-zero : (m n : ℕ) → (m then n) ≡ 0 → (m ≡ 0) × (n ≡ 0)
@@ -53,3 +56,17 @@ pub then-nothing : (m : ℕ) → (m then 0) ≡ m
 unfolding _then_
 then-nothing zero = refl
 then-nothing (suc m) = rw (eqb·suc-zero m)
+
+-- checks come to 0 or to one of their numbers
+pub then-in : (l : List ℕ) (m n : ℕ) → Member m (0 ∷ l) → Member n (0 ∷ l) → Member (m then n) (0 ∷ l)
+unfolding _then_
+then-in l zero n h k = k
+then-in l (suc m) n h k = rw (eqb·suc-zero m) h
+
+pub unless-in : (l : List ℕ) (t : Bool) (n : ℕ) → Member n l → Member (unless t n) (0 ∷ l)
+unfolding unless
+unless-in l true n m = inl refl
+unless-in l false n m = inr m
+
+pub check-in : (l : List ℕ) (t : Bool) (n rest : ℕ) → Member n l → Member rest (0 ∷ l) → Member (unless t n then rest) (0 ∷ l)
+check-in l t n rest m k = then-in l (unless t n) rest (unless-in l t n m) k

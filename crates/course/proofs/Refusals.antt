@@ -1,0 +1,148 @@
+-- A call's refusal is a number of its row, check by check. Assumes nothing.
+use mathlib.Core.Path.{_≡_, refl, ap, subst, sym}
+use mathlib.Core.Logic.{inl, inr, ⊎-elim}
+use mathlib.Core.Bool.{Bool, true, false, not, _&&_}
+use mathlib.Core.List.{List, _∷_}
+use Prim.Native.Nat.{ℕ, _≤_}
+use lib.Dec.{eqb}
+use lib.ListN.{length}
+use borrow.Author.Tests.{eqb-true}
+use Rattle.laws.specs.Lists.{Member}
+use Rattle.laws.specs.Checks.{unless, _then_}
+use Rattle.laws.proofs.Tests.{tested, lt-or-le}
+use Rattle.laws.proofs.Members.{has, has-member}
+use Rattle.laws.proofs.Checks.{then-in, unless-in, check-in}
+use Rattle.book.specs.Clear.{liveOrders, mathOverflow}
+use Rattle.book.specs.Claims as book
+use Rattle.book.specs.Claims.{ClearIsRight}
+use Rattle.book.specs.declared.clear.Outcome.{Outcome}
+use Rattle.book.proofs.Theorems.{clear-is-right}
+use Rattle.auction_engine.specs.declared.Session.{Session}
+use Rattle.auction_engine.specs.Call.{Call, screen, clear, allocate, exercise, close, settle, skip, finish, expire, limitsRefusal, fieldsRefusal, argumentsRefusal}
+use Rattle.auction_engine.specs.Screening.{screenRefusal}
+use Rattle.auction_engine.specs.Clearing.{outcome, clearChecks, clearRefusal}
+use Rattle.auction_engine.specs.Matching.{allocateRefusal}
+use Rattle.auction_engine.specs.Rofr.{exerciseRefusal, closeRefusal}
+use Rattle.auction_engine.specs.Settlement.{settleRefusal, skipRefusal, finishRefusal, expireRefusal}
+use Rattle.auction_engine.specs.Engine.{ownRefusal, refusal, answer}
+use Rattle.course.specs.Refusals.{numbersOf, RefusedByItsRow}
+
+-- all numbers of a call
+abbrev row : Call → List ℕ
+row c = 9 ∷ 4 ∷ numbersOf c
+
+module _ (s : Session) (l : List ℕ) where
+  limits-in : Member 9 l → Member (limitsRefusal s) (0 ∷ l)
+  unfolding limitsRefusal
+  limits-in m = check-in l _ 9 _ m (check-in l _ 9 _ m (check-in l _ 9 _ m (check-in l _ 9 _ m (unless-in l _ 9 m))))
+
+  fields-in : Member 4 l → Member (fieldsRefusal s) (0 ∷ l)
+  unfolding fieldsRefusal
+  fields-in m = check-in l _ 4 _ m (check-in l _ 4 _ m (unless-in l _ 4 m))
+
+  arguments-in : (c : Call) → Member 4 l → Member (argumentsRefusal c) (0 ∷ l)
+  unfolding argumentsRefusal
+  arguments-in (screen now i side verdict hasId id) m = check-in l _ 4 _ m (check-in l _ 4 _ m (check-in l _ 4 _ m (unless-in l _ 4 m)))
+  arguments-in (clear now) m = inl refl
+  arguments-in (allocate now n) m = inl refl
+  arguments-in (exercise now issuer i q) m = inl refl
+  arguments-in (close now caller) m = inl refl
+  arguments-in (settle i) m = inl refl
+  arguments-in (skip now i reason) m = unless-in l _ 4 m
+  arguments-in (finish now) m = inl refl
+  arguments-in (expire now) m = inl refl
+
+  -- an outcome is refused with 17 or not at all
+  outcome-in : Member mathOverflow l → Member (outcome s .refusal) (0 ∷ l)
+  outcome-in m =
+      ⊎-elim (λ h. inl (ap (λ (o : Outcome). o .refusal) (C .too-few h)))
+      (λ (h : s .params .«min_reveals» ≤ live).
+      ⊎-elim (λ (t : unmarked ≡ true). inl (ap (λ (o : Outcome). o .refusal) (C .unmarked h t)))
+      (λ (t : unmarked ≡ false). go (outcome s) (C .right (record { enough = h; marked = t })))
+      (tested unmarked))
+      (lt-or-le live (s .params .«min_reveals»))
+    where
+      C : ClearIsRight (s .params) (s .given) (s .orders) (s .«order_count»)
+      C = clear-is-right (s .params) (s .given) (s .orders) (s .«order_count»)
+
+      live : ℕ
+      live = length (liveOrders (s .orders) (s .«order_count»))
+
+      unmarked : Bool
+      unmarked = not (s .params .forced) && not (s .given .mark)
+
+      go : (o : Outcome) → book.RightClear (s .params) (s .given) (s .orders) (s .«order_count») o → Member (o .refusal) (0 ∷ l)
+      go o (book.no-cross h e) = inl (ap (λ (x : Outcome). x .refusal) e)
+      go o (book.too-large q b h e) = inr (subst (λ (n : ℕ). Member n l) (sym (ap (λ (x : Outcome). x .refusal) e)) m)
+      go o (book.has-price h) = inl (h .refusal)
+
+-- one check of a row, and the last
+check : (l : List ℕ) (n : ℕ) (t : Bool) (rest : ℕ) → has l n ≡ true → Member rest (0 ∷ l) → Member (unless t n then rest) (0 ∷ l)
+check l n t rest h k = check-in l t n rest (has-member l n h) k
+
+last : (l : List ℕ) (n : ℕ) (t : Bool) → has l n ≡ true → Member (unless t n) (0 ∷ l)
+last l n t h = unless-in l t n (has-member l n h)
+
+-- the call's own row, by kind
+own-in : (s : Session) (c : Call) → Member (ownRefusal s c) (0 ∷ row c)
+unfolding ownRefusal screenRefusal clearRefusal allocateRefusal exerciseRefusal closeRefusal settleRefusal skipRefusal finishRefusal expireRefusal has
+own-in s (screen now i side verdict hasId id) =
+    let l : List ℕ = row (screen now i side verdict hasId id) in
+    check l 11 _ _ refl
+    (check l 10 _ _ refl
+    (check l 12 _ _ refl
+    (check l 13 _ _ refl
+    (check l 14 _ _ refl
+    (last l 15 _ refl)))))
+own-in s (clear now) =
+    let l : List ℕ = row (clear now) in
+    then-in l (clearChecks s now) _
+    (check l 11 _ _ refl (check l 10 _ _ refl (last l 16 _ refl)))
+    (outcome-in s l (has-member l 17 refl))
+own-in s (allocate now n) =
+    let l : List ℕ = row (allocate now n) in
+    check l 10 _ _ refl (last l 18 _ refl)
+own-in s (exercise now issuer i q) =
+    let l : List ℕ = row (exercise now issuer i q) in
+    check l 10 _ _ refl
+    (check l 11 _ _ refl
+    (check l 19 _ _ refl
+    (check l 20 _ _ refl
+    (check l 18 _ _ refl
+    (check l 21 _ _ refl
+    (check l 21 _ _ refl
+    (check l 21 _ _ refl
+    (last l 22 _ refl))))))))
+own-in s (close now caller) =
+    let l : List ℕ = row (close now caller) in
+    check l 10 _ _ refl (last l 19 _ refl)
+own-in s (settle i) =
+    let l : List ℕ = row (settle i) in
+    check l 10 _ _ refl (check l 21 _ _ refl (last l 23 _ refl))
+own-in s (skip now i reason) =
+    let l : List ℕ = row (skip now i reason) in
+    check l 10 _ _ refl
+    (check l 21 _ _ refl (check l 23 _ _ refl (last l 24 _ refl)))
+own-in s (finish now) =
+    let l : List ℕ = row (finish now) in
+    check l 10 _ _ refl (check l 25 _ _ refl (last l 17 _ refl))
+own-in s (expire now) =
+    let l : List ℕ = row (expire now) in
+    check l 10 _ _ refl (last l 11 _ refl)
+
+refusal-in : (s : Session) (c : Call) → Member (refusal s c) (0 ∷ row c)
+unfolding refusal
+refusal-in s c =
+    let l = row c in
+    then-in l (limitsRefusal s) _ (limits-in s l (inl refl))
+    (then-in l (fieldsRefusal s) _ (fields-in s l (inr (inl refl)))
+    (then-in l (argumentsRefusal c) (ownRefusal s c) (arguments-in s l c (inr (inl refl))) (own-in s c)))
+
+-- the number of an answer is the refusal's
+pub answers-refusal : (s : Session) (c : Call) → answer s c .refusal ≡ refusal s c
+unfolding answer
+answers-refusal s c =
+    ⊎-elim (λ (t : eqb (refusal s c) 0 ≡ true). rw t (sym (eqb-true (refusal s c) 0 t))) (λ (t : eqb (refusal s c) 0 ≡ false). rw t) (tested (eqb (refusal s c) 0))
+
+pub refused-by-its-row : RefusedByItsRow
+refused-by-its-row s c = subst (λ (n : ℕ). Member n (0 ∷ row c)) (sym (answers-refusal s c)) (refusal-in s c)
