@@ -10,5 +10,4 @@ pub mod Shares
 pub mod Allotting
 pub mod ProRataRefusals
 pub mod ProRataTheorems
-pub mod Examples
 pub mod IdleSearches

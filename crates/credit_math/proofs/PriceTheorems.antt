@@ -11,8 +11,8 @@ use lib.Dec.{lit<, lit≤}
 use Rattle.laws.specs.Lists.{Member}
 use Rattle.laws.proofs.Checks.{check-in, unless-in}
 use Rattle.credit_math.specs.Limits.{maxOrders, volumeBits}
-use Rattle.credit_math.specs.Error.{badLength}
-use Rattle.credit_math.specs.Price.{Best, none, at, Found, refused, noCross, cross, priced, executed, better, clearPrice, priceRefusal, findUniformClearPrice}
+use Rattle.credit_math.specs.Error.{badLength, noCross}
+use Rattle.credit_math.specs.Price.{Best, none, at, Found, refused, failed, cross, priced, executed, better, clearPrice, priceRefusal, findUniformClearPrice}
 use Rattle.credit_math.specs.Claims.{Executes, BestPrice, RightPrice, turned-away, no-cross, cross-at, PriceIsRight, TotalsFit}
 use Rattle.credit_math.proofs.Best.{BestOf, best-beats, beats-one}
 use Rattle.credit_math.proofs.Price.{better-irrefl, better-trans, better-total, clear-price-best, by-order-is, no-refusal}
@@ -82,7 +82,7 @@ module _ (isBuy : List Bool) (limits qtys : List ℕ) (reserve reference : ℕ) 
   one-answer a b (cross-at z p h e) (no-cross y k f) = absurd (k p (h .executes))
   one-answer a b (cross-at z p h e) (cross-at y q k f) = e ∙ ap (λ (x : ℕ). cross x (executed isBuy limits qtys x)) (one-best p q h k) ∙ sym f
 
-  exactly : priceRefusal isBuy limits qtys ≡ 0 → (a : Found) → Right a → (a ≡ noCross) ↔ ((p : ℕ) → P p → ⊥)
+  exactly : priceRefusal isBuy limits qtys ≡ 0 → (a : Found) → Right a → (a ≡ failed noCross) ↔ ((p : ℕ) → P p → ⊥)
   exactly z a (turned-away y e) = absurd (omega arith)
   exactly z a (no-cross y h e) = (λ _. h, λ _. e)
   exactly z a (cross-at y p h e) = (λ f. absurd (let x : _≡_ {A = ℕ} 0 1 = cc in omega arith), λ none. absurd (none p (h .executes)))

@@ -15,8 +15,9 @@ use Rattle.wide.specs.Value.{value, apart}
 use Rattle.credit_math.specs.declared.allocation.Quote.{Quote}
 use Rattle.credit_math.specs.declared.allocation.Kept.{Kept}
 use Rattle.credit_math.specs.declared.allocation.Kept.the-variants.{Nothing, Found}
+use Rattle.credit_math.specs.Error.{noCross}
 use Rattle.credit_math.specs.Price as price
-use Rattle.credit_math.specs.Price.{Best, at, improves, step, walk, buy, sell, executed, imbalance, executes, better, noCross, cross, priced, priceRefusal, findUniformClearPrice}
+use Rattle.credit_math.specs.Price.{Best, at, improves, step, walk, buy, sell, executed, imbalance, executes, better, failed, cross, priced, priceRefusal, findUniformClearPrice}
 use Rattle.credit_math.specs.Steps.{Quoted, AllQuoted, best, ahead, chosen, after, byOrder}
 use Rattle.credit_math.proofs.Price.{by-order-is, no-refusal}
 
@@ -136,7 +137,7 @@ module _ {isBuy : List Bool} {limits qtys : List ℕ} {reserve reference : ℕ} 
 
 -- what is answered of what was kept
 abbrev pub answer : Kept → price.Found
-answer Nothing = noCross
+answer Nothing = failed noCross
 answer (Found q) = cross (q .price) (value (q .executed))
 
 module _ (isBuy : List Bool) (limits qtys : List ℕ) (reserve reference : ℕ) where

@@ -9,8 +9,8 @@ use lib.ListN.{length, getD}
 use Rattle.laws.specs.Sums.{count, sumOf}
 use Rattle.laws.specs.Lists.{Member}
 use Rattle.credit_math.specs.Limits.{maxOrders, sideBits, volumeBits}
-use Rattle.credit_math.specs.Error.{badLength}
-use Rattle.credit_math.specs.Price.{buy, sell, executed, better, clearPrice, priceRefusal, findUniformClearPrice, Found, refused, noCross, cross}
+use Rattle.credit_math.specs.Error.{badLength, noCross}
+use Rattle.credit_math.specs.Price.{buy, sell, executed, better, clearPrice, priceRefusal, findUniformClearPrice, Found, refused, failed, cross}
 use Rattle.credit_math.specs.ProRata.{share, residue, lots}
 use Rattle.credit_math.specs.Steps.{byOrder, lot}
 
@@ -31,7 +31,7 @@ module _ (isBuy : List Bool) (limits qtys : List ℕ) where
     -- '30 over 16 entries or lent slices of unequal length'
     turned-away : priceRefusal isBuy limits qtys ≡ badLength → answer ≡ refused badLength → RightPrice reserve reference answer
     -- NoCross where no candidate executes anything
-    no-cross : priceRefusal isBuy limits qtys ≡ 0 → ((p : ℕ) → Executes reserve p → ⊥) → answer ≡ noCross → RightPrice reserve reference answer
+    no-cross : priceRefusal isBuy limits qtys ≡ 0 → ((p : ℕ) → Executes reserve p → ⊥) → answer ≡ failed noCross → RightPrice reserve reference answer
     -- otherwise the best price, with its executed quantity
     cross-at : priceRefusal isBuy limits qtys ≡ 0 → (p : ℕ) → BestPrice reserve reference p → answer ≡ cross p (executed isBuy limits qtys p) → RightPrice reserve reference answer
 
@@ -42,7 +42,7 @@ module _ (isBuy : List Bool) (limits qtys : List ℕ) where
     pub one-answer : (a : Found) → RightPrice reserve reference a → a ≡ findUniformClearPrice isBuy limits qtys reserve reference
     -- NoCross exactly where no candidate executes anything
     pub no-cross-exactly : priceRefusal isBuy limits qtys ≡ 0
-        → (findUniformClearPrice isBuy limits qtys reserve reference ≡ noCross) ↔ ((p : ℕ) → Executes reserve p → ⊥)
+        → (findUniformClearPrice isBuy limits qtys reserve reference ≡ failed noCross) ↔ ((p : ℕ) → Executes reserve p → ⊥)
     -- going through the orders finds what the source's walk over the sorted limits finds
     pub source : byOrder isBuy limits qtys reserve reference ≡ clearPrice isBuy limits qtys reserve reference
 

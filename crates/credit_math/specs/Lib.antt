@@ -5,4 +5,3 @@ pub mod Price
 pub mod ProRata
 pub mod Steps
 pub mod Claims
-pub mod Examples

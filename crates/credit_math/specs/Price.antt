@@ -11,7 +11,7 @@ use Rattle.laws.specs.Lex.{lex}
 use Rattle.laws.specs.Checks.{unless, _then_}
 use Rattle.wide.specs.Value.{value, apart}
 use Rattle.credit_math.specs.Limits.{maxOrders}
-use Rattle.credit_math.specs.Error.{badLength}
+use Rattle.credit_math.specs.Error.{badLength, noCross}
 use Rattle.credit_math.specs.declared.allocation.Clearing.{Clearing}
 use Rattle.credit_math.specs.declared.allocation.Clearing.the-variants.{Refused, NoCross, Cross}
 
@@ -67,21 +67,21 @@ module _ (isBuy : List Bool) (limits qtys : List ℕ) where
   unfoldable pub clearPrice : (reserve reference : ℕ) → Best
   clearPrice reserve reference = walk executes (better reference) none (candidates reserve)
 
--- what the search answers: a refusal, no cross, or a price with the volume
+-- what the search answers: a refusal with its number, no price for a reason with its number, or a price with the volume
 pub data Found : Type 0 where
-  refused : ℕ → Found
-  noCross : Found
+  refused : (number : ℕ) → Found
+  failed : (reason : ℕ) → Found
   cross : (price volume : ℕ) → Found
 
--- the cases of the declared answer
+-- the declared answer: this paper's number and values for each of its cases
 abbrev pub found : Clearing → Found
 found (Refused n) = refused n
-found NoCross = noCross
+found NoCross = failed noCross
 found (Cross c) = cross (c .«clear_price») (value (c .«executed_qty»))
 
 -- the price with its executed quantity
 abbrev pub priced : (executed : ℕ → ℕ) → Best → Found
-priced executed none = noCross
+priced executed none = failed noCross
 priced executed (at p) = cross p (executed p)
 
 -- 'Public .. price search | 30 over 16 entries or lent slices of unequal length'

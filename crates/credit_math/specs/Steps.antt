@@ -1,12 +1,12 @@
 -- What the private functions keep on the way: forms that are cheap to compute. proofs/Price.antt, proofs/Search.antt and proofs/Sorted.antt show that they come to
 -- the definitions of Price.antt and ProRata.antt.
 use mathlib.Core.Path.{_≡_}
-use mathlib.Core.Bool.{Bool, true, false, cond, not, _&&_}
+use mathlib.Core.Bool.{Bool, cond, not, _&&_}
 use mathlib.Core.List.{List}
 use Prim.Native.Nat.{ℕ, _+_, _≤_}
 use lib.Dec.{ltb, leb}
 use lib.ListN.{length, getD}
-use Rattle.laws.specs.Sums.{sumBelow, only, count, sumOf}
+use Rattle.laws.specs.Sums.{only, count, sumOf}
 use Rattle.laws.specs.Lex.{lex}
 use Rattle.wide.specs.Value.{value, apart}
 use Rattle.credit_math.specs.Limits.{maxOrders}

@@ -59,14 +59,14 @@ pub fn find_uniform_clear_price(
 }
 
 // A price with its volume and its imbalance.
-pub struct Quote {
-    pub price: u64,
-    pub executed: Wide,
-    pub imbalance: Wide,
+struct Quote {
+    price: u64,
+    executed: Wide,
+    imbalance: Wide,
 }
 
 // The best quote so far.
-pub enum Kept {
+enum Kept {
     Nothing,
     Found(Quote),
 }

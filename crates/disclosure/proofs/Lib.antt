@@ -1,3 +1,2 @@
--- Laws of bands, and the worked examples.
+-- Laws of bands.
 pub mod Parts
-pub mod Examples

@@ -1,5 +1,5 @@
 -- `band` and `disclose`.
-use mathlib.Core.Bool.{Bool, cond}
+use mathlib.Core.Bool.{cond}
 use Prim.Native.Nat.{ℕ, _*_, _/_, max}
 use lib.Dec.{leb, eqb}
 use Rattle.disclosure.specs.declared.Banded.{Banded}

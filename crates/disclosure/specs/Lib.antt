@@ -1,3 +1,2 @@
 -- What a print discloses.
 pub mod Disclosure
-pub mod Examples

@@ -2,7 +2,7 @@
 use mathlib.Core.Path.{_≡_, refl, sym, _∙_, ap, subst}
 use mathlib.Core.Bool.{Bool, true, false, cond, not, _&&_, _||_, or-comm, or-false}
 use mathlib.Core.List.{List, [], _∷_}
-use Prim.Native.Nat.{ℕ, zero, suc, _+_, _*_, _/_, _%_, min}
+use Prim.Native.Nat.{ℕ, zero, suc, _+_, _*_, _/_, _%_, _≤_, min}
 use native.Mathlib.Omega.{arith}
 use lib.Dec.{ltb}
 use lib.ListN.{length}
@@ -17,10 +17,10 @@ use Rattle.book.specs.Book.{orderIn, fillIn, noInvestor}
 use Rattle.book.specs.declared.Order.{Order}
 use Rattle.book.specs.declared.Fill.{Fill}
 use Rattle.investors.specs.Participants.{Participant, investor, wallet, sameParticipant, contains, noted, moved, firstOrder, participant, seen, distinctParticipants}
-use Rattle.investors.specs.Places.{partyOf, sameParty, walletAt, placeOf, placeIn, standsAt, isNew, Placed}
+use Rattle.investors.specs.Places.{partyOf, sameParty, walletAt, placeOf, placesOf, placeIn, standsAt, isNew}
 use Rattle.investors.specs.declared.participants.Party.{Party}
 use Rattle.investors.specs.declared.participants.Place.{Place}
-use Rattle.investors.proofs.Placing.{new-places}
+use Rattle.investors.proofs.Placing.{new-places, place-stored}
 
 -- participants that are the same are equal
 same-participant : (a b : Participant) → sameParticipant a b ≡ true → a ≡ b
@@ -114,9 +114,11 @@ module _ (orders : List Order) (n : ℕ) (fills : List Fill) (skipped : ℕ) whe
       let e : 2 * suc m ≡ suc (suc (2 * m)) = omega arith in
       rw (e, seller-place m, buyer-place m, by-places m, party-is orders n (fillIn fills m .buyer), party-is orders n (fillIn fills m .seller)) (two-noted (moved fills skipped m) _ _ _)
 
-  -- the new places of an array that holds the places of the fills
-  pub seen-count : (places : List Place) (m k c : ℕ) → k ≡ min m maxFills → Placed orders n fills skipped places (2 * k) → c ≡ count (isNew (placeIn places)) (2 * k)
+  -- the new places of the array that holds the places of the fills
+  pub seen-count : (places : List Place) (m k c : ℕ) → k ≡ min m maxFills → places ≡ placesOf orders n fills skipped (2 * k) → c ≡ count (isNew (placeIn places)) (2 * k)
       → c ≡ distinctParticipants orders n fills skipped m
   unfolding distinctParticipants
   seen-count places m k c e p h =
-      h ∙ new-places (placeIn places) place (2 * k) (p .at) ∙ sym (new-count place (2 * k)) ∙ ap length (sym (by-places k)) ∙ ap (λ (j : ℕ). length (seen orders n fills skipped j)) e
+      let few : 2 * k ≤ 2 * maxFills = omega (arith, e) in
+      h ∙ new-places (placeIn places) place (2 * k) (λ j l. rw p (place-stored orders n fills skipped (2 * k) j l few)) ∙ sym (new-count place (2 * k)) ∙ ap length (sym (by-places k))
+      ∙ ap (λ (j : ℕ). length (seen orders n fills skipped j)) e

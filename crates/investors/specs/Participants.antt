@@ -1,5 +1,5 @@
 -- `distinct_participants`: 'a wallet whose first order has a nonzero id counts as that id, any other as itself'.
-use mathlib.Core.Bool.{Bool, true, false, cond, not, _&&_, _||_}
+use mathlib.Core.Bool.{Bool, false, cond, not, _&&_, _||_}
 use mathlib.Core.List.{List, [], _∷_}
 use Prim.Native.Nat.{ℕ, zero, suc, min}
 use lib.Dec.{ltb, eqb}

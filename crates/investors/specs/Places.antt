@@ -1,16 +1,15 @@
 -- What the private functions compute: the participants by place of the fills, 2 i being the buyer of fill i and 2 i + 1 its seller, and the
 -- places whose participant stands at no earlier one. proofs/ shows that they number as many as the participants seen.
-use mathlib.Core.Path.{_≡_}
-use mathlib.Core.Bool.{Bool, true, false, cond, not, _&&_}
+use mathlib.Core.Bool.{Bool, false, cond, not, _&&_}
 use mathlib.Core.List.{List, []}
-use Prim.Native.Nat.{ℕ, _*_, _/_, _%_, _<_, min}
+use Prim.Native.Nat.{ℕ, _*_, _/_, _%_, min}
 use lib.Dec.{ltb, eqb}
-use lib.ListN.{getD, replicate}
-use Rattle.laws.specs.Sums.{count}
+use lib.ListN.{getD}
 use Rattle.laws.specs.Search.{some}
-use Rattle.laws.specs.Lists.{same}
+use Rattle.laws.specs.Lists.{table, same}
 use Rattle.credit_math.specs.Limits.{maxOrders}
-use Rattle.book.specs.Book.{orderIn, fillIn, noInvestor}
+use Rattle.book.specs.Limits.{maxFills}
+use Rattle.book.specs.Book.{orderIn, fillIn, noWallet, noInvestor}
 use Rattle.book.specs.declared.Order.{Order}
 use Rattle.book.specs.declared.Fill.{Fill}
 use Rattle.investors.specs.Participants.{firstOrder, moved}
@@ -35,6 +34,15 @@ unfoldable pub placeOf : List Order → ℕ → List Fill → (skipped k : ℕ) 
 placeOf orders n fills skipped k =
     record { moved = moved fills skipped (k / 2); who = partyOf orders n (walletAt (fillIn fills (k / 2)) k) }
 
+-- an unused place of the array
+abbrev pub blankPlace : Place
+blankPlace = record { moved = false; who = record { known = false; id = noInvestor; wallet = noWallet } }
+
+-- the array with the first e places of the fills, and blank ones after them
+unfoldable pub placesOf : List Order → ℕ → List Fill → (skipped e : ℕ) → List Place
+placesOf orders n fills skipped e = table (λ k. cond (ltb k e) (placeOf orders n fills skipped k) blankPlace) (2 * maxFills)
+
+-- what stands past the end of an array, by the language: array fields are then empty
 abbrev pub noPlace : Place
 noPlace = record { moved = false; who = record { known = false; id = []; wallet = [] } }
 
@@ -48,7 +56,3 @@ standsAt place a j = place j .moved && sameParty (place j .who) a
 -- a place of a fill that moved, whose participant stands at no earlier such place
 unfoldable pub isNew : (ℕ → Place) → ℕ → Bool
 isNew place k = place k .moved && not (some (standsAt place (place k .who)) k)
-
--- the first e places of the array are those of the fills
-pub record Placed (orders : List Order) (n : ℕ) (fills : List Fill) (skipped : ℕ) (places : List Place) (e : ℕ) : Type 0 where
-  pub at : (k : ℕ) → k < e → placeIn places k ≡ placeOf orders n fills skipped k

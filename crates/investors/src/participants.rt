@@ -11,7 +11,7 @@ ghost use Rattle.credit_math.specs.Limits.{maxOrders};
 ghost use Rattle.book.specs.Limits.{maxFills};
 ghost use Rattle.book.specs.Book.{noInvestor};
 ghost use Rattle.investors.specs.Participants.{distinctParticipants};
-ghost use Rattle.investors.specs.Places.{partyOf, sameParty, walletAt, placeIn, standsAt, isNew, Placed};
+ghost use Rattle.investors.specs.Places.{partyOf, sameParty, walletAt, placesOf, placeIn, standsAt, isNew};
 use book::Fill;
 use book::MAX_FILLS;
 use book::Order;
@@ -21,16 +21,16 @@ use credit_math::MAX_ORDERS;
 const MAX_PLACES: usize = 2 * MAX_FILLS;
 
 // A participant: its investor id where `known`, else its wallet.
-pub struct Party {
-    pub known: bool,
-    pub id: [u8; 16],
-    pub wallet: [u8; 32],
+struct Party {
+    known: bool,
+    id: [u8; 16],
+    wallet: [u8; 32],
 }
 
 // A place of a fill: whether the fill moved, and who stands there.
-pub struct Place {
-    pub moved: bool,
-    pub who: Party,
+struct Place {
+    moved: bool,
+    who: Party,
 }
 
 // Distinct participants over the fills that moved. A count above its limit is read as the limit.
@@ -54,7 +54,7 @@ fn at_most_fills(m: usize) -> usize
     if m < MAX_FILLS { m } else { MAX_FILLS }
 }
 
-// The places of the first m fills.
+// The places of the first m fills, and blank ones after them.
 fn places_of(
     orders: [Order; MAX_ORDERS],
     n: usize,
@@ -63,7 +63,7 @@ fn places_of(
     skipped: u32,
 ) -> [Place; MAX_PLACES]
     requires { ⌜ m ≤ maxFills ⌝ }
-    ensures { λ r. ⌜ Placed orders n fills skipped r (2 * m) ⌝ }
+    ensures { λ r. ⌜ r ≡ placesOf orders n fills skipped (2 * m) ⌝ }
 {
     let nobody = Party {
         known: false,

@@ -1,5 +1,5 @@
 -- Laws of the lexicographic order: one step keeps what the rest has. Assumes nothing.
-use mathlib.Core.Path.{_≡_, refl, sym, ap, _∙_, subst}
+use mathlib.Core.Path.{_≡_, refl, sym, _∙_, subst}
 use mathlib.Core.Logic.{_⊎_, inl, inr, ⊎-elim}
 use mathlib.Core.Bool.{Bool, true, false}
 use Prim.Native.Nat.{ℕ, _≤_, _<_}
@@ -40,10 +40,6 @@ lex-same a r = lex-equal a a r refl
 pub lex-false : (a b : ℕ) → lex a b false ≡ ltb a b
 unfolding lex
 lex-false a b = ⊎-elim (λ (t : ltb a b ≡ true). rw t) (λ (t : ltb a b ≡ false). ⊎-elim (λ (u : ltb b a ≡ true). rw (t, u)) (λ (u : ltb b a ≡ false). rw (t, u)) (tested (ltb b a))) (tested (ltb a b))
-
-pub lex-own : (a b : ℕ) → lex a b (ltb a b) ≡ ltb a b
-unfolding lex
-lex-own a b = ⊎-elim (λ (t : ltb a b ≡ true). rw t) (λ (t : ltb a b ≡ false). ap (lex a b) t ∙ lex-false a b) (tested (ltb a b))
 
 pub lex-trans : (a b c : ℕ) (r s t : Bool) → (r ≡ true → s ≡ true → t ≡ true) → lex a b r ≡ true → lex b c s ≡ true → lex a c t ≡ true
 lex-trans a b c r s t f h k =

@@ -5,6 +5,7 @@ pub mod Widths
 pub mod Search
 pub mod Lists
 pub mod Kept
+pub mod Gathering
 pub mod Sort
 pub mod Lex
 pub mod Rank

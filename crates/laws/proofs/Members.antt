@@ -17,10 +17,6 @@ unfoldable pub has : List ℕ → ℕ → Bool
 has [] i = false
 has (x ∷ l) i = eqb x i || has l i
 
-pub has-none : (i : ℕ) → has [] i ≡ false
-unfolding has
-has-none i = refl
-
 pub has-head : (i : ℕ) (l : List ℕ) → has (i ∷ l) i ≡ true
 unfolding has
 has-head i l = rw (eq-eqb i i refl)

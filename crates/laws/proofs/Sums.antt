@@ -55,15 +55,6 @@ unfolding sumBelow
 sum-add f g zero = refl
 sum-add f g (suc n) = omega (arith, sum-add f g n)
 
--- further terms that are 0
-pub sum-cut : (f : ℕ → ℕ) (m n : ℕ) → m ≤ n → ((i : ℕ) → m ≤ i → i < n → f i ≡ 0) → sumBelow f n ≡ sumBelow f m
-unfolding sumBelow
-sum-cut f m zero l h = let e : zero ≡ m = omega arith in ap (sumBelow f) e
-sum-cut f m (suc n) l h =
-    ⊎-elim (λ (e : m ≡ suc n). ap (sumBelow f) (sym e))
-    (λ (k : m < suc n). omega (arith, sum-cut f m n (le-of-suc-le-suc k) (λ i a b. h i a (le-step b)), h n (le-of-suc-le-suc k) (le-refl (suc n))))
-    (eq-or-lt-of-le l)
-
 -- a term is at most the sum, and a sum of larger terms is larger
 pub sum-ge : (f : ℕ → ℕ) (n i : ℕ) → i < n → f i ≤ sumBelow f n
 unfolding sumBelow
@@ -115,10 +106,6 @@ module _ {A : Type 0} (f : A → ℕ) (d : A) where
         sum-at (λ j. f (getD (set l i a) j d)) (λ j. f (getD l j d)) n i i<n (λ j _ q. ap f (getD-set-other l i j a d q)),
       )
 
-  pub over-above : (l : List A) (n i : ℕ) (a : A) → n ≤ i → sumOver f d (set l i a) n ≡ sumOver f d l n
-  unfolding sumOver
-  over-above l n i a h = sum-same (λ j. f (getD (set l i a) j d)) (λ j. f (getD l j d)) n (λ j k. ap f (getD-set-other l i j a d (omega arith)))
-
   pub over-push : (l : List A) (n : ℕ) (a : A) → n < length l → sumOver f d (set l n a) (suc n) ≡ sumOver f d l n + f a
   unfolding sumOver sumBelow
   over-push l n a h =
@@ -129,10 +116,6 @@ pub only-none : (b : Bool) → only b 0 ≡ 0
 only-none true = refl
 only-none false = refl
 
-pub only-within : (b : Bool) (n : ℕ) → only b n ≤ n
-only-within true n = le-refl n
-only-within false n = zero-le
-
 -- counts
 pub only-le : (a b : Bool) → (a ≡ true → b ≡ true) → only a 1 ≤ only b 1
 only-le true true f = le-refl 1
@@ -142,10 +125,6 @@ only-le false b f = zero-le
 pub only-one : (a : Bool) → only a 1 ≤ 1
 only-one true = le-refl 1
 only-one false = zero-le
-
-pub count-suc : (p : ℕ → Bool) (n : ℕ) → count p (suc n) ≡ count p n + only (p n) 1
-unfolding count sumBelow
-count-suc p n = refl
 
 pub count-le : (p : ℕ → Bool) (n : ℕ) → count p n ≤ n
 unfolding count sumBelow
@@ -183,31 +162,3 @@ unfolding sumBelow count
 some-above f zero h = absurd (omega arith)
 some-above f (suc k) h =
     ⊎-elim (λ (e : f k ≡ 0). omega (arith, some-above f k (omega arith))) (λ (p : 0 < f k). omega (arith, ap (λ (b : Bool). only b 1) (lt-ltb 0 (f k) p))) (eq-zero-or-pos (f k))
-
-pub term-above : (f : ℕ → ℕ) (n : ℕ) → 0 < sumBelow f n → (i : ℕ) × (i < n) × (0 < f i)
-unfolding sumBelow
-term-above f zero h = absurd (omega arith)
-term-above f (suc n) h = go (f n) refl (term-above f n)
-  where
-    go : (x : ℕ) → f n ≡ x → (0 < sumBelow f n → (i : ℕ) × (i < n) × (0 < f i)) → (i : ℕ) × (i < suc n) × (0 < f i)
-    go zero e ih = let r = ih (omega arith) in (r .0, le-step (r .1), r .2)
-    go (suc x) e ih = (n, le-refl (suc n), omega arith)
-
--- a loop that counts: r of the first i places pass
-pub record Counting (p : ℕ → Bool) (i r : ℕ) : Type 0 where
-  pub is : r ≡ sumBelow (λ k. only (p k) 1) i
-  pub small : r ≤ i
-
-module _ {p : ℕ → Bool} where
-  pub counting : Counting p 0 0
-  unfolding sumBelow
-  counting = record { is = refl; small = zero-le }
-
-  pub counting-more : {i r : ℕ} (b : Bool) (u : ℕ) → Counting p i r → b ≡ p i → u ≡ only b 1 → Counting p (i + 1) (r + u)
-  counting-more {i} {r} b u s e f =
-      let g : u ≡ only (p i) 1 = f ∙ ap (λ (x : Bool). only x 1) e in
-      record { is = sum-step (λ k. only (p k) 1) i r u (r + u) refl (s .is) g; small = omega (arith, s .small, only-one (p i)) }
-
-  pub counted : {i r : ℕ} {n : ℕ} → Counting p i r → i ≤ n → n ≤ i → r ≡ count p n
-  unfolding count
-  counted {i} {r} {n} s h g = sum-end (λ k. only (p k) 1) i n r (s .is) h g

@@ -11,9 +11,6 @@ use lib.IntN.{ℤ, pos, negsuc}
 use lib.Signed.{ltZ, leZ}
 use borrow.Author.Tests.{le-ltb, lt-ltb, le-leb, lt-leb, eq-eqb, ne-eqb}
 
--- what a comparison comes to, from the fact that decides it
-pub ruleset tests = (le-ltb, lt-ltb, le-leb, lt-leb, eq-eqb, ne-eqb)
-
 -- a test with its value
 pub tested : (b : Bool) → (b ≡ true) ⊎ (b ≡ false)
 tested true = inl refl

@@ -24,10 +24,6 @@ module _ (k : ℕ) where
   unfolding AtMost
   one-more i v x h f = omega (arith, suc-mul i (2 ^ k), ap (λ (m : ℕ). m * 2 ^ k) (add-one i))
 
-  pub within : (i v n : ℕ) → AtMost k i v → i ≤ n → v ≤ n * 2 ^ k
-  unfolding AtMost
-  within i v n h f = omega (arith, mul-le-mul-right (2 ^ k) f)
-
   -- one term more stays below what n terms come to
   pub below : (i v x n : ℕ) → AtMost k i v → x < 2 ^ k → i < n → v + x < n * 2 ^ k
   unfolding AtMost

@@ -1,6 +1,6 @@
 -- What the private functions keep on the way: the records' fields copied into arrays of 16. proofs/Columns.antt shows that the first n of each array are
 -- the fields of n records.
-use mathlib.Core.Bool.{Bool, false, cond}
+use mathlib.Core.Bool.{false, cond}
 use mathlib.Core.List.{List}
 use Prim.Native.Nat.{ℕ, zero, suc}
 use lib.Dec.{leb}

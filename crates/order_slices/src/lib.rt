@@ -1,7 +1,7 @@
 // The source's public functions on a lent slice of records: each copies at most 16 entries into number arrays and calls its core, which decides.
 ghost use mathlib.Core.Path.{_≡_};
 ghost use mathlib.Core.Bool.{false};
-ghost use Prim.Native.Nat.{ℕ, _<_, _≤_};
+ghost use Prim.Native.Nat.{_<_, _≤_};
 ghost use lib.ListN.{length, take};
 ghost use Rattle.wide.specs.Value.{digits};
 ghost use Rattle.credit_math.specs.Limits.{maxOrders};

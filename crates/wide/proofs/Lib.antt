@@ -2,5 +2,6 @@
 pub mod Laws
 pub mod Words
 pub mod Columns
+pub mod Length
 pub mod Long
 pub mod Quotient

@@ -7,9 +7,8 @@ use native.Mathlib.Numerals.{add-one}
 use native.Mathlib.Omega.{arith}
 use lib.Pow.{pow-pos, pow-add, shr-shr, high}
 use lib.Arith.{digits-lt}
-use lib.Count.{leadingZeros, leading-length}
-use Rattle.wide.proofs.Laws.{zero-low}
-use Rattle.wide.specs.Value.{digits}
+use Rattle.wide.proofs.Length.{below-length}
+use Rattle.wide.specs.Value.{digits, bitLength}
 
 mul-two : (x y : ℕ) → 2 * x * y ≡ 2 * (x * y)
 mul-two x y = mul-assoc 2 x y
@@ -58,23 +57,6 @@ digit-high k h l i f s =
     rejoin : (a b : ℕ) → a ≤ b → b ≡ a + (b - a)
     rejoin a b c = omega arith
 
--- a number of two digits is below the power of two that its leading zeros leave
-pub length-low : (k h l : ℕ) → l < 2 ^ k → h ≡ 0 → digits k h l < 2 ^ (k - leadingZeros k l)
-length-low k h l f e =
-    let t = leading-length k l f in
-    subst (λ (n : ℕ). n < 2 ^ (k - leadingZeros k l)) (zero-low k h l e) (subst (λ (n : ℕ). l < 2 ^ n) (rest-is (leadingZeros k l) (t .0) k (t .1)) (t .2))
-  where
-    rest-is : (z m c : ℕ) → z + m ≡ c → m ≡ c - z
-    rest-is z m c e = omega arith
-
-pub length-high : (k h l : ℕ) → l < 2 ^ k → h < 2 ^ k → digits k h l < 2 ^ (k + k - leadingZeros k h)
-length-high k h l f g =
-    let t = leading-length k h g in
-    subst (λ (n : ℕ). digits k h l < 2 ^ n) (more (leadingZeros k h) (t .0) k (t .1)) (subst (λ (n : ℕ). digits k h l < n) (sym (pow-add 2 (t .0) k)) (digits-lt (t .2) f))
-  where
-    more : (z m c : ℕ) → z + m ≡ c → m + c ≡ c + c - z
-    more z m c e = omega arith
-
 -- the digits of n down to i - 1 are those down to i and one more
 prefix : (n i : ℕ) → zero < i → n / 2 ^ (i - 1) ≡ 2 * (n / 2 ^ i) + n / 2 ^ (i - 1) % 2
 prefix n i p = omega (arith, shr-shr n (i - 1) 1 ∙ ap (λ (x : ℕ). n / 2 ^ x) (again i p))
@@ -84,8 +66,8 @@ prefix n i p = omega (arith, shr-shr n (i - 1) 1 ∙ ap (λ (x : ℕ). n / 2 ^ x
 
 module _ (n i : ℕ) where
   -- before the first digit of n, after one digit more, and after the last
-  pub none-yet : (q d r : ℕ) → n < 2 ^ i → q ≡ 0 → r ≡ 0 → q * d + r ≡ n / 2 ^ i
-  none-yet q d r h e f = omega (arith, ap (λ (x : ℕ). x * d) e, zero-mul d, div-eq-of-lt h)
+  pub none-yet : (q d r : ℕ) → i ≡ bitLength n → q ≡ 0 → r ≡ 0 → q * d + r ≡ n / 2 ^ i
+  none-yet q d r h e f = omega (arith, ap (λ (x : ℕ). x * d) e, zero-mul d, div-eq-of-lt (subst (λ (x : ℕ). n < 2 ^ x) (sym h) (below-length n)))
 
   pub one-more : (x b : ℕ) → zero < i → x ≡ n / 2 ^ i → b ≡ n / 2 ^ (i - 1) % 2 → 2 * x + b ≡ n / 2 ^ (i - 1)
   one-more x b p e f = omega (arith, prefix n i p)

@@ -2,7 +2,7 @@
 ghost use mathlib.Core.Path.{_≡_};
 ghost use Prim.Native.Nat.{_+_, _-_, _*_, _/_, _%_, _^_, _<_, _≤_, min};
 ghost use lib.Dec.{ltb, eqb};
-ghost use Rattle.wide.specs.Value.{value, modulus, apart, Divided, Turn};
+ghost use Rattle.wide.specs.Value.{value, modulus, apart, bitLength, Divided, Turn};
 
 pub struct Wide {
     pub hi: u64,
@@ -211,9 +211,9 @@ fn bit(n: Wide, i: u64) -> u64
     }
 }
 
-// A number of binary digits that n has at most: its leading zeros are passed over.
+// How many binary digits n has: its leading zeros are passed over.
 fn bits(n: Wide) -> u64
-    ensures { λ r. ⌜ (value n < 2 ^ r) × (r ≤ 128) ⌝ }
+    ensures { λ r. ⌜ r ≡ bitLength (value n) ⌝ }
 {
     if n.hi == 0 {
         64 - u64::leading_zeros(n.lo) as u64

@@ -5,6 +5,7 @@ use libc::STDOUT_FILENO;
 fn main() {
     show_marked_prices();
     show_marked_lots();
+    show_marked_bands();
     show_wide_volumes();
 }
 
@@ -35,6 +36,12 @@ fn show_marked_lots() {
         &[1, 1, 1],
         &mut [0, 0, 0],
     );
+}
+
+fn show_marked_bands() {
+    show_band(b"band of 11 at 2500", 11, 2500);
+    show_band(b"band of 11 at 0", 11, 0);
+    show_band(b"band of 11 at 10,000", 11, 10_000);
 }
 
 // The volumes that are run only: one past 64 bits, and one within.
@@ -105,6 +112,18 @@ fn show_lots(label: &[u8], total: u64, ids: &[u64], qtys: &[u64], out: &mut [u64
     } else {
         say(b":");
         show_numbers(out);
+    }
+    say(b"\n");
+}
+
+fn show_band(label: &[u8], price: u64, band_bps: u64) {
+    say(label);
+    let band = disclosure::band(price, band_bps);
+    if band.refusal != 0 {
+        show_refusal(band.refusal);
+    } else {
+        say(b":");
+        show_number(band.price);
     }
     say(b"\n");
 }

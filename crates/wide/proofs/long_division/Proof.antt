@@ -6,10 +6,10 @@ use native.Mathlib.Nat.{lt-of-le-of-lt}
 use native.Mathlib.Omega.{arith}
 use borrow.Author.Needs.{needs}
 use lib.Pow.{shr-le}
-use Rattle.wide.specs.Value.{value, modulus}
+use Rattle.wide.specs.Value.{value, modulus, bitLength}
 use Rattle.wide.proofs.Long.{none-yet, one-more, all-down}
 use Rattle.wide.proofs.Quotient.{of-parts}
-use Rattle.wide.proofs.Words.{value-below}
+use Rattle.wide.proofs.Words.{value-below, value-bits}
 use Rattle.wide.proofs.long_division.Statement.{statement}
 use Rattle.wide.proofs.long_division.Tie as tie
 
@@ -28,6 +28,9 @@ next c = one-more _ _ _ _ (c .before .loop-test .taken) (c .before .before .loop
 short : (c : tie.Start Inv-loop μ-loop) → value (c .args .n) < modulus
 short c = value-below (c .args .n) (omega arith) (omega arith)
 
+few : (c : tie.Start Inv-loop μ-loop) → bitLength (value (c .args .n)) ≤ 128
+few c = value-bits (c .args .n) (omega arith) (omega arith)
+
 bits-requires : tie.Need-bits-requires Inv-loop μ-loop
 bits-requires c κs = search needs
 
@@ -39,8 +42,9 @@ of-word-requires-2 c κs = search needs
 
 loop-holds : tie.Need-loop-holds Inv-loop μ-loop
 loop-holds c =
+    let s = c .before .before .before in
     let b = c .before .before .bits .ensures in
-    (b .1, omega (arith, c .of-word2 .ensures, c .before .before .before .pre .0), none-yet _ _ _ _ _ (b .0) (c .before .of-word .ensures) (c .of-word2 .ensures))
+    (omega (arith, b, few s), omega (arith, c .of-word2 .ensures, s .pre .0), none-yet _ _ _ _ _ b (c .before .of-word .ensures) (c .of-word2 .ensures))
 
 sub-left : tie.Need-sub-left Inv-loop μ-loop
 sub-left c = search needs

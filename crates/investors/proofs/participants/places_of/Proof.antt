@@ -6,19 +6,19 @@ use native.Mathlib.Omega.{arith}
 use lib.ListN.{length, length-set}
 use borrow.Author.Needs.{needs}
 use Rattle.book.specs.Limits.{maxFills}
-use Rattle.investors.specs.Places.{Placed}
-use Rattle.investors.proofs.Placing.{placed-none, placed-more, placed-all}
+use Rattle.investors.specs.Places.{placesOf}
+use Rattle.investors.proofs.Placing.{places-none, places-more, places-all}
 use Rattle.investors.proofs.participants.places_of.Statement.{statement}
 use Rattle.investors.proofs.participants.places_of.Tie as tie
 
 abbrev Inv-loop : tie.InvT-loop
-Inv-loop orders n m skipped fills out₀ k₀ out k = (k ≤ 2 * m) × (length out ≡ 2 * maxFills) × Placed orders n fills skipped out k
+Inv-loop orders n m skipped fills out₀ k₀ out k = (k ≤ 2 * m) × (length out ≡ 2 * maxFills) × (out ≡ placesOf orders n fills skipped k)
 
 abbrev μ-loop : tie.MeasureT-loop
 μ-loop orders n m skipped fills out₀ k₀ out k = 2 * m - k
 
 loop-holds : tie.Need-loop-holds Inv-loop μ-loop
-loop-holds c = (search needs, search needs, placed-none)
+loop-holds c = (search needs, search needs, places-none _ _ _ _)
 
 mul-loop : tie.Need-mul-loop Inv-loop μ-loop
 mul-loop c = search needs
@@ -46,10 +46,10 @@ loop-less c = search needs
 
 loop-again : tie.Need-loop-again Inv-loop μ-loop
 loop-again c =
-    let l = c .before .before .before .loop .inv in (omega arith, simp length-set (l .1), placed-more _ (l .2) (omega arith) (c .place-of .ensures))
+    let l = c .before .before .before .loop .inv in (omega arith, simp length-set (l .1), places-more _ _ _ _ _ _ _ (l .2) (omega arith) (c .place-of .ensures))
 
 returns : tie.Need-returns Inv-loop μ-loop
-returns c = let l = c .before .loop .inv in placed-all _ (l .2) (l .0) (c .loop-test .left)
+returns c = let l = c .before .loop .inv in places-all _ _ _ _ _ _ _ (l .2) (l .0) (c .loop-test .left)
 
 pub places-of-spec : {M : Type 1} → statement M
 places-of-spec =

@@ -4,8 +4,10 @@ use mathlib.Core.Bool.{Bool, true, false}
 use mathlib.Core.List.{List, [], _∷_}
 use Prim.Native.Nat.{ℕ}
 use lib.ListN.{length, replicate}
-use Rattle.credit_math.specs.Price.{Found, noCross, cross, findUniformClearPrice}
+use Rattle.credit_math.specs.Error.{noCross}
+use Rattle.credit_math.specs.Price.{Found, failed, cross, findUniformClearPrice}
 use Rattle.credit_math.specs.ProRata.{proRataRefusal, allocateProRata}
+use Rattle.disclosure.specs.Disclosure.{bandAnswer}
 
 pub data Example : Type 0 where
   -- the search finds this
@@ -14,11 +16,14 @@ pub data Example : Type 0 where
   lotsOf : (total : ℕ) (ids qtys : List ℕ) → List ℕ → Example
   -- pro-rata refuses with this number
   refusedBy : (total : ℕ) (ids qtys : List ℕ) → ℕ → Example
+  -- the band of the price p is this
+  bandOf : (p bandBps : ℕ) → ℕ → Example
 
 abbrev pub Holds : Example → Type 0
 Holds (price isBuy limits qtys reserve reference answer) = findUniformClearPrice isBuy limits qtys reserve reference ≡ answer
 Holds (lotsOf total ids qtys answer) = allocateProRata ids qtys total (replicate (length qtys) 0) ≡ answer
 Holds (refusedBy total ids qtys number) = proRataRefusal ids qtys (length qtys) total ≡ number
+Holds (bandOf p bandBps answer) = bandAnswer p bandBps ≡ record { refusal = 0; price = answer }
 
 abbrev pub All : List Example → Type 0
 All [] = Unit
@@ -39,5 +44,8 @@ examples =
     ∷ pair 0 9 (cross 8 5)
     ∷ pair 0 10 (cross 10 5)
     ∷ pair 9 9 (cross 10 5)
-    ∷ pair 11 9 noCross
+    ∷ pair 11 9 (failed noCross)
+    ∷ bandOf 11 2500 10
+    ∷ bandOf 11 0 11
+    ∷ bandOf 11 10000 11
     ∷ []
