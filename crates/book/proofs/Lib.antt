@@ -1,8 +1,8 @@
 -- Laws of the clear.
 pub mod Live
-pub mod Search
-pub mod Lots
-pub mod Allocations
+pub mod Sides
+pub mod Stored
 pub mod Outcomes
+pub mod Allocations
 pub mod Theorems
 pub mod IdleClears

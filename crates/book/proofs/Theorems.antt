@@ -9,22 +9,23 @@ use lib.Dec.{ltb}
 use lib.ListN.{length}
 use borrow.Author.Tests.{ltb-true, ltb-false, lt-ltb, le-ltb}
 use Rattle.laws.proofs.Tests.{tested}
+use Rattle.laws.proofs.Lists.{map-members}
+use Rattle.credit_math.specs.Error.{noCross}
 use Rattle.credit_math.specs.Price.{Best, none, at, clearPrice, priced}
-use Rattle.credit_math.specs.Steps.{sideTotal}
 use Rattle.credit_math.specs.Claims as math
 use Rattle.credit_math.proofs.Best.{BestOf, best-of, best-beats, beats-one}
 use Rattle.credit_math.proofs.Price.{better-irrefl, better-trans, better-total, clear-price-best}
-use Rattle.book.specs.Clear.{liveOrders, allocations, allotted, floorOf, computeClear, failedBy, tooFewReveals, noCrossReason, markUnavailable}
-use Rattle.book.specs.Columns.{columnsOf}
+use Rattle.book.specs.Book.{orderIn}
+use Rattle.book.specs.Clear.{liveOrders, allocations, allotted, floorOf, computeClear, failedBy, tooFewReveals, markUnavailable}
+use Rattle.book.specs.Gathered.{buysOf, limitsOf, qtysOf}
 use Rattle.book.specs.Claims.{Executes, BestPrice, executedAt, betterThan, Clearable, RightAllocations, Priced, RightClear, no-cross, too-large, has-price, ClearIsRight}
 use Rattle.book.specs.declared.Order.{Order}
 use Rattle.book.specs.declared.Params.{Params}
 use Rattle.book.specs.declared.Given.{Given}
 use Rattle.book.specs.declared.clear.Outcome.{Outcome}
-use Rattle.book.proofs.Live.{buysOf, limitsOf, qtysOf, live-is, live-below}
-use Rattle.book.proofs.Search.{listed-limit, list-found, same-executed}
+use Rattle.book.proofs.Live.{live-inside, live-member}
+use Rattle.book.proofs.Outcomes.{searched-is, executed-within}
 use Rattle.book.proofs.Allocations.{allocation-within, allocation-others, side-adds-up}
-use Rattle.book.proofs.Outcomes.{both-sides}
 
 module _ (p : Params) (g : Given) (orders : List Order) (n : ℕ) where
   abbrev E : ℕ → Type 0
@@ -49,19 +50,16 @@ module _ (p : Params) (g : Given) (orders : List Order) (n : ℕ) where
   -- the limits of the list are those of the live orders, by number
   by-number : (q : ℕ) → math.Executes (buysOf orders n) (limitsOf orders n) (qtysOf orders n) (floorOf p g) q → E q
   by-number q h =
-      let r = listed-limit orders n q .0 (h .limit) in
-      let l = live-is orders n (r .order) (r .live) in
-      record { order = r .order; below = omega (arith, r .below, l .0); live = l .1; limit = r .is; floor = h .floor; some = h .some }
+      let r = map-members (λ i. orderIn orders i .limit) q (liveOrders orders n) .0 (h .limit) in
+      let l = live-inside orders n (r .0) (r .1) in
+      record { order = r .0; below = l .0; live = l .1; limit = r .2; floor = h .floor; some = h .some }
 
   by-list : (q : ℕ) → E q → math.Executes (buysOf orders n) (limitsOf orders n) (qtysOf orders n) (floorOf p g) q
-  by-list q h =
-      record {
-        limit =
-            listed-limit orders n q .1
-            (record { order = h .order; below = omega (arith, h .below); live = live-below orders n (h .order) (omega (arith, h .below)) ∙ h .live; is = h .limit });
-        floor = h .floor;
-        some = h .some;
-      }
+  by-list q h = record {
+    limit = map-members (λ i. orderIn orders i .limit) q (liveOrders orders n) .1 (h .order, live-member orders n (h .order) (h .below) (h .live), h .limit);
+    floor = h .floor;
+    some = h .some;
+  }
 
   -- the search's best, by number
   abbrev found : Best
@@ -75,11 +73,7 @@ module _ (p : Params) (g : Given) (orders : List Order) (n : ℕ) where
   -- a clear is that of the search's best
   cleared : Clearable p g orders n → computeClear p g orders n ≡ allotted orders n (priced v found)
   unfolding computeClear
-  cleared c = rw (le-ltb (length (liveOrders orders n)) (p .«min_reveals») (c .enough), c .marked) (ap (allotted orders n) (list-found orders n (floorOf p g) (g .reference)))
-
-  -- the volume of a price is within both sides of the columns
-  both-have : (q : ℕ) (buys : Bool) → v q ≤ sideTotal (columnsOf orders n .«is_buy») (columnsOf orders n .limits) (columnsOf orders n .qtys) buys q
-  both-have q buys = rw (← same-executed orders n q) (both-sides (columnsOf orders n .«is_buy») (columnsOf orders n .limits) (columnsOf orders n .qtys) q buys)
+  cleared c = rw (le-ltb (length (liveOrders orders n)) (p .«min_reveals») (c .enough), c .marked) (ap (allotted orders n) (searched-is orders n (floorOf p g) (g .reference)))
 
   -- the best of those that execute is better than any other
   is-best : (q : ℕ) → BestOf B E (at q) → BestPrice p g orders n q
@@ -90,9 +84,9 @@ module _ (p : Params) (g : Given) (orders : List Order) (n : ℕ) where
 
   pub right-lots : (q : ℕ) → RightAllocations p g orders n q (v q) (allocations orders n q (v q))
   right-lots q = record {
-    sides = side-adds-up orders n q (v q) (both-have q);
-    within = allocation-within orders n q (v q) (both-have q);
-    others = allocation-others orders n q (v q) (both-have q);
+    sides = side-adds-up orders n q (v q) (executed-within orders n q);
+    within = allocation-within orders n q (v q) (executed-within orders n q);
+    others = allocation-others orders n q (v q) (executed-within orders n q);
     pro-rata = refl;
   }
 
@@ -137,7 +131,7 @@ module _ (p : Params) (g : Given) (orders : List Order) (n : ℕ) where
   one-outcome a b (has-price h) (too-large r k m f) = absurd (not-both r a k m h)
   one-outcome a b (has-price h) (has-price k) = priced-is a h ∙ ap at-price (one-best (a .price) (b .price) (h .best) (k .best)) ∙ sym (priced-is b k)
 
-  exactly : (o : Outcome) → RightClear p g orders n o → (o .failed ≡ noCrossReason) ↔ ((q : ℕ) → E q → ⊥)
+  exactly : (o : Outcome) → RightClear p g orders n o → (o .failed ≡ noCross) ↔ ((q : ℕ) → E q → ⊥)
   exactly o (no-cross h e) = (λ _. h, λ _. ap (λ (x : Outcome). x .failed) e)
   exactly o (too-large q h l e) = (λ f. absurd (omega (arith, f, ap (λ (x : Outcome). x .failed) e)), λ none. absurd (none q (h .executes)))
   exactly o (has-price h) = (λ f. absurd (omega (arith, f, h .failed)), λ none. absurd (none (o .price) (h .best .executes)))

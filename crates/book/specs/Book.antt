@@ -66,6 +66,23 @@ listed row =
       «investor_id» = noInvestor;
     }
 
+-- an order with other values in the fields that calls write
+abbrev pub reorder : Order → (alloc left : ℕ) (screened eligible : Bool) (id : List ℕ) → Order
+reorder o a left screened eligible id =
+    record {
+      owner = o .owner;
+      side = o .side;
+      escrowed = o .escrowed;
+      revealed = o .revealed;
+      limit = o .limit;
+      qty = o .qty;
+      alloc = a;
+      «alloc_left» = left;
+      screened = screened;
+      eligible = eligible;
+      «investor_id» = id;
+    }
+
 -- unused places of the two arrays
 abbrev pub emptyOrder : Order
 emptyOrder = listed (record { owner = noWallet; side = 0; escrowed = 0; revealed = false; limit = 0; qty = 0 })

@@ -8,9 +8,10 @@ use lib.Dec.{ltb}
 use lib.ListN.{length, getD}
 use Rattle.laws.specs.Sums.{sumBelow, only}
 use Rattle.credit_math.specs.Limits.{maxOrders}
+use Rattle.credit_math.specs.Error.{noCross}
 use Rattle.credit_math.specs.Price.{executed, better}
 use Rattle.book.specs.Book.{orderIn, isLive, isBuy}
-use Rattle.book.specs.Clear.{liveOrders, tradesAt, allocations, floorOf, computeClear, failedBy, refusedWith, tooFewReveals, noCrossReason, markUnavailable, mathOverflow}
+use Rattle.book.specs.Clear.{liveOrders, tradesAt, allocations, floorOf, computeClear, failedBy, refusedWith, tooFewReveals, markUnavailable, mathOverflow}
 use Rattle.book.specs.declared.Order.{Order}
 use Rattle.book.specs.declared.Params.{Params}
 use Rattle.book.specs.declared.Given.{Given}
@@ -71,7 +72,7 @@ module _ (p : Params) (g : Given) (orders : List Order) (n : ℕ) where
   -- Demand 2: what the clear of a book that can be cleared comes to, one of three
   pub data RightClear (o : Outcome) : Type 0 where
     -- 'clearing ends in NoCross exactly when no live limit at or above the reserve executes anything'
-    no-cross : ((q : ℕ) → Executes q → ⊥) → o ≡ failedBy noCrossReason → RightClear o
+    no-cross : ((q : ℕ) → Executes q → ⊥) → o ≡ failedBy noCross → RightClear o
     -- '17 volume above 64 bits'
     too-large : (price : ℕ) → BestPrice price → 2 ^ 64 ≤ executedAt price → o ≡ refusedWith mathOverflow → RightClear o
     -- 'otherwise the price is the best'
@@ -85,4 +86,4 @@ module _ (p : Params) (g : Given) (orders : List Order) (n : ℕ) where
     pub right : Clearable → RightClear (computeClear p g orders n)
     pub one-best : (q r : ℕ) → BestPrice q → BestPrice r → q ≡ r
     pub one-outcome : Clearable → (o : Outcome) → RightClear o → o ≡ computeClear p g orders n
-    pub no-cross-exactly : Clearable → (computeClear p g orders n .failed ≡ noCrossReason) ↔ ((q : ℕ) → Executes q → ⊥)
+    pub no-cross-exactly : Clearable → (computeClear p g orders n .failed ≡ noCross) ↔ ((q : ℕ) → Executes q → ⊥)

@@ -6,7 +6,7 @@ use lib.Dec.{ltb, leb, eqb}
 use lib.ListN.{length, getD, set, replicate}
 use Rattle.laws.specs.Lists.{table, keep}
 use Rattle.credit_math.specs.Limits.{maxOrders}
-use Rattle.credit_math.specs.Price.{Found, refused, noCross, cross, findUniformClearPrice}
+use Rattle.credit_math.specs.Price.{Found, refused, failed, cross, findUniformClearPrice}
 use Rattle.credit_math.specs.ProRata.{lots}
 use Rattle.book.specs.Book.{orderIn, isLive, isBuy}
 use Rattle.book.specs.declared.Order.{Order}
@@ -14,12 +14,9 @@ use Rattle.book.specs.declared.Params.{Params}
 use Rattle.book.specs.declared.Given.{Given}
 use Rattle.book.specs.declared.clear.Outcome.{Outcome}
 
--- reasons of a failed clear: TooFewReveals 1, NoCross 2, MarkUnavailable 3
+-- reasons of a failed clear: TooFewReveals 1, MarkUnavailable 3; NoCross 2 is the price search's
 abbrev pub tooFewReveals : ℕ
 tooFewReveals = 1
-
-abbrev pub noCrossReason : ℕ
-noCrossReason = 2
 
 abbrev pub markUnavailable : ℕ
 markUnavailable = 3
@@ -73,7 +70,7 @@ module _ (orders : List Order) (n : ℕ) where
   -- 17 where the volume takes more than 64 bits, before any lot is computed
   unfoldable pub allotted : Found → Outcome
   allotted (refused number) = refusedWith number
-  allotted noCross = failedBy noCrossReason
+  allotted (failed reason) = failedBy reason
   allotted (cross p v) =
       cond (ltb v (2 ^ 64))
       (record { refusal = 0; failed = 0; price = p; volume = v; lots = allocations p v })

@@ -2,5 +2,5 @@
 pub mod Limits
 pub mod Book
 pub mod Clear
-pub mod Columns
+pub mod Gathered
 pub mod Claims

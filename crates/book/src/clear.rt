@@ -1,15 +1,13 @@
-// `compute_clear`: the live orders as columns by order number, the price, and the lots.
+// `compute_clear`: the live orders gathered, the price, and the lots.
 ghost use mathlib.Core.Path.{_≡_};
-ghost use mathlib.Core.Bool.{Bool, true, false, cond, not, _&&_};
-ghost use Prim.Native.Nat.{ℕ, _+_, _^_, _<_, _≤_, min};
-ghost use lib.Dec.{ltb, leb, eqb};
-ghost use lib.ListN.{length, getD, replicate};
-ghost use Rattle.laws.specs.Sums.{only, count};
+ghost use mathlib.Core.Bool.{cond, not, _&&_};
+ghost use Prim.Native.Nat.{min};
+ghost use lib.Dec.{leb};
+ghost use lib.ListN.{take, replicate};
 ghost use Rattle.wide.specs.Value.{value};
 ghost use Rattle.credit_math.specs.Limits.{maxOrders};
-ghost use Rattle.book.specs.Book.{isLive, isBuy};
-ghost use Rattle.book.specs.Clear.{floorOf, computeClear};
-ghost use Rattle.book.specs.Columns.{liveAt, columnsOf, numbers, sideColumn, columnLots, lotsOf, pricedAt, outcomeOf};
+ghost use Rattle.book.specs.Clear.{stored, floorOf, computeClear};
+ghost use Rattle.book.specs.Gathered.{Gathered, FromBook, Cleared, Priced, Allocated, Allotted, Trading, Places};
 use crate::Given;
 use crate::Order;
 use crate::Params;
@@ -37,14 +35,14 @@ pub struct Outcome {
 pub fn compute_clear(p: Params, g: Given, orders: [Order; MAX_ORDERS], n: usize) -> Outcome
     ensures { λ r. ⌜ r ≡ computeClear p g orders n ⌝ }
 {
-    let live = live_count(orders, n);
+    let live = live_orders(orders, n);
+    let count = live.count as u64;
     let least = p.min_reveals as u64;
-    if live < least {
+    if count < least {
         return no_lots(0, TOO_FEW_REVEALS);
     }
     if has_mark(p.forced, g.mark) {
-        let c = columns_of(orders, n);
-        return outcome_of(c, floor_of(p, g), g.reference);
+        return outcome_of(live, floor_of(p, g), g.reference);
     }
     no_lots(0, MARK_UNAVAILABLE)
 }
@@ -75,18 +73,42 @@ fn no_lots(refusal: u8, failed: u8) -> Outcome
     }
 }
 
-fn live_count(orders: [Order; MAX_ORDERS], n: usize) -> u64
-    ensures { λ r. ⌜ r ≡ count (liveAt orders n) maxOrders ⌝ }
+// The live orders, one behind the other: the first `count` places hold their numbers, sides, limits and quantities.
+pub struct Live {
+    pub numbers: [u64; MAX_ORDERS],
+    pub is_buy: [bool; MAX_ORDERS],
+    pub limits: [u64; MAX_ORDERS],
+    pub qtys: [u64; MAX_ORDERS],
+    pub count: usize,
+}
+
+// Each order is written at the next place, and the place is kept where the order is live.
+fn live_orders(orders: [Order; MAX_ORDERS], n: usize) -> Live
+    ensures { λ r. ⌜ Gathered orders n r ⌝ }
 {
     let m = at_most_all(n);
-    let mut live = 0;
+    let mut numbers: [u64; MAX_ORDERS] = [0; MAX_ORDERS];
+    let mut is_buy: [bool; MAX_ORDERS] = [false; MAX_ORDERS];
+    let mut limits: [u64; MAX_ORDERS] = [0; MAX_ORDERS];
+    let mut qtys: [u64; MAX_ORDERS] = [0; MAX_ORDERS];
+    let mut count = 0;
     let mut i = 0;
     while i < m {
         let o = orders[i];
-        live += credit_math::allocation::unit(live_at(o, i, n));
+        numbers[count] = i as u64;
+        is_buy[count] = o.side == 0;
+        limits[count] = o.limit;
+        qtys[count] = o.qty;
+        count += place(o.is_live());
         i += 1;
     }
-    live
+    Live {
+        numbers,
+        is_buy,
+        limits,
+        qtys,
+        count,
+    }
 }
 
 // A count above the limit is read as the limit.
@@ -96,83 +118,42 @@ pub fn at_most_all(n: usize) -> usize
     if n < MAX_ORDERS { n } else { MAX_ORDERS }
 }
 
-fn live_at(o: Order, i: usize, n: usize) -> bool
-    ensures { λ r. ⌜ r ≡ ltb i n && isLive o ⌝ }
+fn place(kept: bool) -> usize
+    ensures { λ r. ⌜ r ≡ cond kept 1 0 ⌝ }
 {
-    if i < n {
-        return o.is_live();
-    }
-    false
+    if kept { 1 } else { 0 }
 }
 
-// The live orders by number: an idle place is a sell of nothing at 0.
-pub struct Columns {
-    pub is_buy: [bool; MAX_ORDERS],
-    pub limits: [u64; MAX_ORDERS],
-    pub qtys: [u64; MAX_ORDERS],
-}
-
-fn columns_of(orders: [Order; MAX_ORDERS], n: usize) -> Columns
-    ensures { λ r. ⌜ r ≡ columnsOf orders n ⌝ }
+// The clearing of the live orders.
+fn outcome_of(live: Live, reserve: u64, reference: u64) -> Outcome
+    requires { ⌜ FromBook live ⌝ }
+    ensures { λ r. ⌜ Cleared live reserve reference r ⌝ }
 {
-    let mut is_buy: [bool; MAX_ORDERS] = [false; MAX_ORDERS];
-    let mut limits: [u64; MAX_ORDERS] = [0; MAX_ORDERS];
-    let mut qtys: [u64; MAX_ORDERS] = [0; MAX_ORDERS];
-    let mut i = 0;
-    while i < MAX_ORDERS {
-        let o = orders[i];
-        let live = live_at(o, i, n);
-        is_buy[i] = buys_if(live, o.side);
-        limits[i] = number_if(live, o.limit);
-        qtys[i] = number_if(live, o.qty);
-        i += 1;
-    }
-    Columns {
-        is_buy,
-        limits,
-        qtys,
-    }
-}
-
-fn buys_if(live: bool, side: u8) -> bool
-    ensures { λ r. ⌜ r ≡ live && eqb side 0 ⌝ }
-{
-    if live { side == 0 } else { false }
-}
-
-fn number_if(live: bool, n: u64) -> u64
-    ensures { λ r. ⌜ r ≡ only live n ⌝ }
-{
-    if live { n } else { 0 }
-}
-
-// The clearing of the columns.
-fn outcome_of(c: Columns, reserve: u64, reference: u64) -> Outcome
-    ensures { λ r. ⌜ r ≡ outcomeOf c reserve reference ⌝ }
-{
-    let is_buy = c.is_buy;
-    let limits = c.limits;
-    let qtys = c.qtys;
+    let is_buy = live.is_buy;
+    let limits = live.limits;
+    let qtys = live.qtys;
+    let n = live.count;
     let found = credit_math::allocation::find_uniform_clear_price(
-        &is_buy,
-        &limits,
-        &qtys,
+        &is_buy[..n],
+        &limits[..n],
+        &qtys[..n],
         reserve,
         reference,
     );
     match found {
         Clearing::Refused(number) => no_lots(number, 0),
         Clearing::NoCross => no_lots(0, NO_CROSS),
-        Clearing::Cross(result) => priced(c, result.clear_price, result.executed_qty),
+        Clearing::Cross(result) => priced(live, result.clear_price, result.executed_qty),
     }
 }
 
-fn priced(c: Columns, price: u64, executed: Wide) -> Outcome
-    ensures { λ r. ⌜ r ≡ pricedAt c price (value executed) ⌝ }
+fn priced(live: Live, price: u64, executed: Wide) -> Outcome
+    requires { ⌜ FromBook live ⌝ }
+    ensures { λ r. ⌜ Priced live price (value executed) r ⌝ }
 {
     if wide::fits_word(executed) {
         let volume = executed.lo;
-        let lots = lots_of(c, price, volume);
+        let lots = lots_of(live, price, volume);
         return Outcome {
             refusal: 0,
             failed: 0,
@@ -184,62 +165,100 @@ fn priced(c: Columns, price: u64, executed: Wide) -> Outcome
     no_lots(crate::error::MATH_OVERFLOW, 0)
 }
 
-// Each order's lot, by its side.
-fn lots_of(c: Columns, p: u64, volume: u64) -> [u64; MAX_ORDERS]
-    ensures { λ r. ⌜ r ≡ lotsOf c p volume ⌝ }
+// Each order's lot by its number: first the buyers', then the sellers'.
+fn lots_of(live: Live, p: u64, volume: u64) -> [u64; MAX_ORDERS]
+    requires { ⌜ FromBook live ⌝ }
+    ensures { λ r. ⌜ Allocated live p volume r ⌝ }
 {
-    let buys = side_lots(true, c, p, volume);
-    let sells = side_lots(false, c, p, volume);
-    let is_buy = c.is_buy;
-    let mut out: [u64; MAX_ORDERS] = [0; MAX_ORDERS];
+    let none: [u64; MAX_ORDERS] = [0; MAX_ORDERS];
+    let bought = with_lots(true, live, p, volume, none);
+    with_lots(false, live, p, volume, bought)
+}
+
+// A side's lots, put at their order numbers.
+fn with_lots(
+    buys: bool,
+    live: Live,
+    p: u64,
+    volume: u64,
+    into: [u64; MAX_ORDERS],
+) -> [u64; MAX_ORDERS]
+    requires { ⌜ FromBook live ⌝ }
+    ensures { λ r. ⌜ Allotted live buys p volume into r ⌝ }
+{
+    let side = side_orders(buys, live, p);
+    let numbers = side.numbers;
+    let qtys = side.qtys;
+    let n = side.count;
+    let mut lots: [u64; MAX_ORDERS] = [0; MAX_ORDERS];
+    credit_math::allocation::allocate_pro_rata(volume, &numbers[..n], &qtys[..n], &mut lots[..n]);
+    put(numbers, lots, n, into)
+}
+
+// The live orders of a side that trade at a price, by number and quantity.
+pub struct Side {
+    pub numbers: [u64; MAX_ORDERS],
+    pub qtys: [u64; MAX_ORDERS],
+    pub count: usize,
+}
+
+fn side_orders(buys: bool, live: Live, p: u64) -> Side
+    requires { ⌜ FromBook live ⌝ }
+    ensures { λ r. ⌜ Trading live buys p r ⌝ }
+{
+    let all = live.numbers;
+    let is_buy = live.is_buy;
+    let limits = live.limits;
+    let wanted = live.qtys;
+    let n = live.count;
+    let mut numbers: [u64; MAX_ORDERS] = [0; MAX_ORDERS];
+    let mut qtys: [u64; MAX_ORDERS] = [0; MAX_ORDERS];
+    let mut count = 0;
     let mut i = 0;
-    while i < MAX_ORDERS {
-        out[i] = lot_by_side(is_buy[i], buys[i], sells[i]);
+    while i < n {
+        numbers[count] = all[i];
+        qtys[count] = wanted[i];
+        count += place(trades_at(buys, is_buy[i], limits[i], p));
         i += 1;
     }
-    out
-}
-
-fn lot_by_side(is_buy: bool, buy: u64, sell: u64) -> u64
-    ensures { λ r. ⌜ r ≡ cond «is_buy» buy sell ⌝ }
-{
-    if is_buy { buy } else { sell }
-}
-
-// The lots of one side.
-fn side_lots(buys: bool, c: Columns, p: u64, volume: u64) -> [u64; MAX_ORDERS]
-    ensures { λ r. ⌜ r ≡ columnLots c buys p volume ⌝ }
-{
-    let ids = order_numbers();
-    let qtys = side_column(buys, c, p);
-    let mut out: [u64; MAX_ORDERS] = [0; MAX_ORDERS];
-    credit_math::allocation::allocate_pro_rata(volume, &ids, &qtys, &mut out);
-    out
-}
-
-fn order_numbers() -> [u64; MAX_ORDERS]
-    ensures { λ r. ⌜ r ≡ numbers ⌝ }
-{
-    let mut out: [u64; MAX_ORDERS] = [0; MAX_ORDERS];
-    let mut i = 0;
-    while i < MAX_ORDERS {
-        out[i] = i as u64;
-        i += 1;
+    Side {
+        numbers,
+        qtys,
+        count,
     }
-    out
 }
 
-// What each order adds to a side's total at p.
-fn side_column(buys: bool, c: Columns, p: u64) -> [u64; MAX_ORDERS]
-    ensures { λ r. ⌜ r ≡ sideColumn c buys p ⌝ }
+// Buyers take part at or below their limit, sellers at or above it.
+fn trades_at(buys: bool, is_buy: bool, limit: u64, p: u64) -> bool
+    ensures { λ r. ⌜ r ≡ cond buys («is_buy» && leb p limit) (not «is_buy» && leb limit p) ⌝ }
 {
-    let is_buy = c.is_buy;
-    let limits = c.limits;
-    let qtys = c.qtys;
-    let mut out: [u64; MAX_ORDERS] = [0; MAX_ORDERS];
+    if buys {
+        if is_buy {
+            return p <= limit;
+        }
+        return false;
+    }
+    if is_buy {
+        return false;
+    }
+    limit <= p
+}
+
+// The first n values at the places that stand beside them.
+fn put(
+    places: [u64; MAX_ORDERS],
+    values: [u64; MAX_ORDERS],
+    n: usize,
+    into: [u64; MAX_ORDERS],
+) -> [u64; MAX_ORDERS]
+    requires { ⌜ Places places n ⌝ }
+    ensures { λ r. ⌜ r ≡ stored (take n places) (take n values) into ⌝ }
+{
+    let mut out = into;
     let mut i = 0;
-    while i < MAX_ORDERS {
-        out[i] = credit_math::allocation::added_at(buys, is_buy[i], limits[i], qtys[i], p);
+    while i < n {
+        let at = places[i] as usize;
+        out[at] = values[i];
         i += 1;
     }
     out

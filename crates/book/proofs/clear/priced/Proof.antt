@@ -12,13 +12,14 @@ lots-of-requires : tie.Need-lots-of-requires
 lots-of-requires c κs = search needs
 
 returns : tie.Need-returns
-returns c = let f = c .before .before in priced-fits _ _ (f .before .args .executed) _ _ (f .fits-word .ensures) (c .before .if1 .taken) (c .lots-of .ensures)
+returns c = priced-fits _ (c .before .before .before .args .executed) _ (c .before .before .fits-word .ensures) _ (c .before .if1 .taken) (c .lots-of .ensures)
 
 no-lots-requires : tie.Need-no-lots-requires
 no-lots-requires c κs = search needs
 
 returns-2 : tie.Need-returns-2
-returns-2 c = priced-wide _ _ _ _ _ (c .before .before .fits-word .ensures) (c .before .if1 .left) (c .no-lots .ensures)
+returns-2 c = priced-wide _ (c .before .before .before .args .executed) _ (c .before .before .fits-word .ensures) _ (c .before .if1 .left) (c .no-lots .ensures)
 
 pub priced-spec : {M : Type 1} → statement M
-priced-spec = tie.close (tie.spec fits-word-requires lots-of-requires returns no-lots-requires returns-2)
+priced-spec =
+    tie.close (tie.spec fits-word-requires lots-of-requires returns no-lots-requires returns-2)
