@@ -1,22 +1,23 @@
--- One event pushed onto a packed list is the packed longer list; a list of at most two is what its small struct holds.
+-- One event pushed onto a packed list is the packed longer list; a list is what the struct made of it holds, and so is one of at most two in the small struct.
 -- Assumes nothing.
 use mathlib.Core.Path.{_≡_, refl, sym, _∙_, ap}
 use mathlib.Core.List.{List, [], _∷_, _++_, map, append-assoc}
 use Prim.Native.Nat.{ℕ, suc, _+_, _-_, _<_, _≤_}
+use native.Mathlib.Nat.{min-eq-left}
 use native.Mathlib.Omega.{arith}
 use borrow.Author.Tests.{lt-ltb}
 use lib.ListN.{length, set, replicate, length-append, length-take}
-use lib.Seq.{take-all, set-append-seam}
+use lib.Seq.{take-all, take-at, set-append-seam}
 use Rattle.events.specs.declared.Event.{Event}
 use Rattle.events.specs.declared.Line.{Line}
 use Rattle.events.specs.declared.Few.{Few}
-use Rattle.events.specs.Events.{maxEvents, lineOf, blank, packed, pushed, few, inFew}
+use Rattle.events.specs.Events.{maxEvents, lineOf, blank, packed, eventsIn, pushed, few, inFew}
 
 map-append : (l k : List Event) → map lineOf (l ++ k) ≡ map lineOf l ++ map lineOf k
 map-append [] k = refl
 map-append (e ∷ l) k = ap (λ m. lineOf e ∷ m) (map-append l k)
 
-pub length-lines : (l : List Event) → length (map lineOf l) ≡ length l
+length-lines : (l : List Event) → length (map lineOf l) ≡ length l
 length-lines [] = refl
 length-lines (e ∷ l) = ap suc (length-lines l)
 
@@ -43,6 +44,15 @@ push-first e = push-packed [] e (omega arith)
 pub push-second : (e f : Event) → pushed (packed (e ∷ [])) f ≡ packed (e ∷ f ∷ [])
 push-second e f = push-packed (e ∷ []) f (omega arith)
 
+events-lines : (l : List Event) → map (λ k. k .event) (map lineOf l) ≡ l
+events-lines [] = refl
+events-lines (e ∷ l) = ap (λ m. e ∷ m) (events-lines l)
+
+pub events-packed : (l : List Event) → length l ≤ maxEvents → eventsIn (packed l) ≡ l
+unfolding packed
+events-packed l h =
+    rw (min-eq-left h, take-at (map lineOf l) (replicate (maxEvents - length l) blank) (length l) (length-lines l)) (events-lines l)
+
 pub in-few : (l : List Event) → length l ≤ 2 → inFew (few l) ≡ l
 in-few [] h = refl
 in-few (e ∷ []) h = refl
@@ -53,5 +63,9 @@ in-few (e ∷ f ∷ g ∷ l) h = absurd (omega arith)
 pub both-held : (f : Few) → 2 ≤ f .count → inFew f ≡ f .first ∷ f .second ∷ []
 both-held f h = take-all (f .count) (f .first ∷ f .second ∷ []) h
 
-pub two-held : (f : Few) → length (inFew f) ≤ 2
+two-held : (f : Few) → length (inFew f) ≤ 2
 two-held f = rw (length-take (f .count) (f .first ∷ f .second ∷ [])) (omega arith)
+
+-- the larger struct holds the same events
+pub few-packed : (f : Few) → eventsIn (packed (inFew f)) ≡ inFew f
+few-packed f = events-packed (inFew f) (omega (arith, two-held f))

@@ -1,7 +1,7 @@
 -- A call's events are a list; the struct holds it from its first place on.
 use mathlib.Core.Bool.{cond}
 use mathlib.Core.List.{List, [], _∷_, _++_, map}
-use Prim.Native.Nat.{ℕ, _+_, _-_}
+use Prim.Native.Nat.{ℕ, _+_, _-_, min}
 use lib.Dec.{ltb}
 use lib.ListN.{length, getD, take, set, replicate}
 use Rattle.book.specs.Limits.{maxFills}
@@ -24,6 +24,10 @@ blank = lineOf Nothing
 -- the struct that holds a list of at most maxEvents events; no struct of that type holds a longer one
 unfoldable pub packed : List Event → Events
 packed l = record { lines = map lineOf l ++ replicate (maxEvents - length l) blank; count = length l }
+
+-- the events that a struct holds
+abbrev pub eventsIn : Events → List Event
+eventsIn es = map (λ l. l .event) (take (min (es .count) maxEvents) (es .lines))
 
 -- one event more, where there is room
 unfoldable pub pushed : Events → Event → Events

@@ -1,4 +1,4 @@
-// The events of a call, in the source's names and order.
+// What is said of a call or of a record: the source's events, in its names and order, and document 01's own lines.
 ghost use mathlib.Core.Path.{_≡_};
 ghost use mathlib.Core.List.{[], _∷_};
 ghost use Rattle.events.specs.Events.{packed, pushed, few, inFew};
@@ -15,6 +15,7 @@ pub struct Print {
     pub partial: bool,
 }
 
+// The source's events, from OrderScreened to PhaseChanged; and the lines of document 01's listing that are no event of the source.
 pub enum Event {
     // An unused place.
     Nothing,
@@ -57,6 +58,12 @@ pub enum Event {
         from: u8,
         to: u8,
     },
+    // `open`: the header is accepted.
+    Opened,
+    // `order I`: an order is accepted, with its number.
+    Ordered(u64),
+    // `refused R`
+    Refused(u8),
 }
 
 // One event: an array holds no enums.

@@ -2,5 +2,6 @@
 pub mod Spliced
 pub mod Decimal
 pub mod Fields
+pub mod Parts
 pub mod Lines
 pub mod Answers

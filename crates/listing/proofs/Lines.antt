@@ -1,26 +1,21 @@
--- A record's lines: those of its events one after the other, and what is said of it by kind, brief or not; and the last line.
+-- A record's lines: those of its events one after the other; and the last line.
 -- Assumes nothing.
-use mathlib.Core.Path.{_≡_, refl, sym, _∙_, ap}
+use mathlib.Core.Path.{_≡_, refl, ap}
 use mathlib.Core.Bool.{Bool, true, false}
 use mathlib.Core.List.{List, [], _∷_, _++_, map, map-append, append-assoc, append-nil}
-use Prim.Native.Nat.{ℕ, zero, suc, _+_, _-_, _<_, _≤_}
-use native.Mathlib.Nat.{min-eq-left}
+use Prim.Native.Nat.{ℕ, zero, suc, _+_, _<_, _≤_}
 use native.Mathlib.Numerals.{add-one}
 use native.Mathlib.Omega.{arith}
-use borrow.Author.Tests.{ne-eqb}
 use lib.Count.{ones}
-use lib.ListN.{length, getD, take, replicate}
-use lib.Seq.{take-at, take-suc}
+use lib.ListN.{length, getD, take}
+use lib.Seq.{take-suc}
 use Rattle.events.specs.declared.Event.{Event}
 use Rattle.events.specs.declared.Line.{Line}
-use Rattle.events.specs.Events.{maxEvents, lineOf, blank, packed, few, inFew}
-use Rattle.events.proofs.Packed.{length-lines, in-few, two-held}
 use Rattle.listing.specs.declared.words.Word.{Word}
 use Rattle.listing.specs.declared.words.Parts.{Parts}
-use Rattle.listing.specs.declared.Brief.{Brief}
 use Rattle.listing.specs.Words.{noneWord, endWord, space, newline}
-use Rattle.listing.specs.Lines.{eventLine, eventLines, eventsIn, refused, happened, recordLines, saidAs, said, briefly, endLine}
-use Rattle.listing.specs.Parts.{letters, parts, rest, partsLine}
+use Rattle.listing.specs.Lines.{eventLine, eventLines, recordLines, endLine}
+use Rattle.listing.specs.Parts.{letters, parts, rest}
 use Rattle.listing.specs.Writing.{Puts}
 use Rattle.listing.proofs.Spliced.{puts-puts}
 
@@ -51,42 +46,15 @@ lines-take : (number i : ℕ) (l : List Line) (d : Line) → i < length l
 lines-take number i l d h = rw (add-one, take-suc l i d h, map-append, lines-append, lines-one)
 
 -- one event's line after those before it
-pub puts-event : (number i : ℕ) (l : List Line) (d : Line) (p : Parts) {k r : ℕ} {e e′ e″ : List ℕ} → Puts (eventLines number (eventsOf (take i l))) 0 k e e′
-    → Puts (partsLine number p) k r e′ e″ → ((n : ℕ) → partsLine n p ≡ eventLine n (getD l i d .event)) → i < length l → Puts (eventLines number (eventsOf (take (i + 1) l))) 0 r e e″
-puts-event number i l d p w v is h = rw (lines-take number i l d h, ← is number) (puts-puts w v (omega arith))
+pub puts-event : (number i : ℕ) (l : List Line) (d : Line) {k r : ℕ} {e e′ e″ : List ℕ} → Puts (eventLines number (eventsOf (take i l))) 0 k e e′
+    → Puts (eventLine number (getD l i d .event)) k r e′ e″ → i < length l → Puts (eventLines number (eventsOf (take (i + 1) l))) 0 r e e″
+puts-event number i l d w v h = rw (lines-take number i l d h) (puts-puts w v (omega arith))
 
 -- the lines of a record with one event or more
-pub happened-some : (number n : ℕ) (l : List Line) → 0 < n → n ≤ length l → recordLines number (happened (eventsOf (take n l))) ≡ eventLines number (eventsOf (take n l))
-happened-some number zero l g h = absurd (omega arith)
-happened-some number (suc n) [] g h = absurd (omega arith)
-happened-some number (suc n) (x ∷ l) g h = refl
-
--- what is said by kind: refused whatever the events, and the events from kind 3 on
-pub said-refused : (kind figure : ℕ) (l : List Event) → kind ≡ 2 → saidAs kind figure l ≡ refused figure
-said-refused kind figure l h = rw h
-
-pub said-happened : (kind figure : ℕ) (l : List Event) → 3 ≤ kind → saidAs kind figure l ≡ happened l
-said-happened kind figure l h = rw (ne-eqb kind 0 (omega arith), ne-eqb kind 1 (omega arith), ne-eqb kind 2 (omega arith))
-
--- the events of a packed list are the list
-events-lines : (l : List Event) → eventsOf (map lineOf l) ≡ l
-events-lines [] = refl
-events-lines (e ∷ l) = ap (λ m. e ∷ m) (events-lines l)
-
-pub in-packed : (l : List Event) → length l ≤ maxEvents → eventsIn (packed l) ≡ l
-unfolding packed
-in-packed l h =
-    rw (min-eq-left h, take-at (map lineOf l) (replicate (maxEvents - length l) blank) (length l) (length-lines l)) (events-lines l)
-
--- a brief record says what the record with the same events says
-pub said-all : (b : Brief) → said (record { kind = b .kind; figure = b .figure; events = packed (inFew (b .events)) }) ≡ briefly b
-unfolding said briefly
-said-all b = ap (saidAs (b .kind) (b .figure)) (in-packed (inFew (b .events)) (omega (arith, two-held (b .events))))
-
-pub brief-said : (kind figure : ℕ) (l : List Event) → length l ≤ 2
-    → briefly (record { kind = kind; figure = figure; events = few l }) ≡ said (record { kind = kind; figure = figure; events = packed l })
-unfolding said briefly
-brief-said kind figure l h = ap (saidAs kind figure) (in-few l h ∙ sym (in-packed l (omega arith)))
+pub some-lines : (number n : ℕ) (l : List Line) → 0 < n → n ≤ length l → recordLines number (eventsOf (take n l)) ≡ eventLines number (eventsOf (take n l))
+some-lines number zero l g h = absurd (omega arith)
+some-lines number (suc n) [] g h = absurd (omega arith)
+some-lines number (suc n) (x ∷ l) g h = refl
 
 -- the last line, with an accepted header and without
 pub end-rest : {accepted : Bool} (w : Word) (phase skipped q : ℕ) {p : Parts} → letters w ≡ endWord → accepted ≡ true → q ≡ ones skipped → p ≡ parts w (phase ∷ q ∷ [])

@@ -1,13 +1,13 @@
--- Texts written over a part one after the other, and byte by byte; the part stays as long as it is.
+-- Texts written over a part one after the other, byte by byte, and in what is left of it; the part stays as long as it is.
 -- Assumes nothing.
 use mathlib.Core.Path.{_≡_, refl, sym}
-use mathlib.Core.List.{List, [], _∷_, _++_, append-assoc}
-use Prim.Native.Nat.{ℕ, _+_, _<_, _≤_}
-use native.Mathlib.Nat.{add-zero, add-assoc}
+use mathlib.Core.List.{List, [], _∷_, _++_, append-assoc, append-nil}
+use Prim.Native.Nat.{ℕ, _+_, _-_, _<_, _≤_}
+use native.Mathlib.Nat.{add-zero, zero-add, add-assoc}
 use native.Mathlib.Numerals.{add-one}
 use native.Mathlib.Omega.{arith}
-use lib.ListN.{length, getD, take, drop, set, length-append, length-drop, take-append-drop}
-use lib.Seq.{length-take-le, take-at, drop-at, drop-drop, set-split, take-suc}
+use lib.ListN.{length, getD, take, drop, set, length-append, length-drop, take-append-drop, drop-of-length-le}
+use lib.Seq.{length-take-le, take-all, take-at, drop-at, drop-drop, set-split, take-suc}
 use Rattle.listing.specs.Writing.{splice, Puts}
 
 -- a text written after another, over what that one left
@@ -46,3 +46,15 @@ puts-start at e = rw (add-zero at) (puts-none at e)
 pub puts-next : (i at : ℕ) (w : List ℕ) {e e′ : List ℕ} → Puts (take i w) at (at + i) e e′ → i < length w → at + i < length e′ → at ≤ length e
     → Puts (take (i + 1) w) at (at + (i + 1)) e (set e′ (at + i) (getD w i 0))
 puts-next i at w {e} {e′} p hi hr ha = rw (add-one i, take-suc w i 0 hi, ← add-one i, ← add-assoc) (puts-puts p (puts-byte (at + i) (getD w i 0) e′ hr) ha)
+
+-- what is put at the start of the part from a place on is put at that place of the whole
+module _ (at : ℕ) (e : List ℕ) where
+  part-all : take (length e - at) (drop at e) ≡ drop at e
+  part-all = take-all (length e - at) (drop at e) (rw length-drop (omega arith))
+
+  part-end : drop (length e - at) (drop at e) ≡ []
+  part-end = drop-of-length-le (drop at e) {i = length e - at} (rw length-drop (omega arith))
+
+  pub puts-part : {l : List ℕ} {n : ℕ} {left : List ℕ} → Puts l 0 n (take (length e - at) (drop at e)) left
+      → Puts l at (at + n) e (take at e ++ (left ++ drop (length e - at) (drop at e)))
+  puts-part p = record { place = rw (p .place, zero-add); bytes = rw (part-end, append-nil, p .bytes, part-all, zero-add, drop-drop) }

@@ -1,17 +1,13 @@
 -- 'Listing': the lines of a record, and the last line.
 use mathlib.Core.Bool.{Bool, cond}
-use mathlib.Core.List.{List, [], _∷_, _++_, map}
-use Prim.Native.Nat.{ℕ, zero, suc, _+_, _*_, _/_, _%_, min}
+use mathlib.Core.List.{List, [], _∷_, _++_}
+use Prim.Native.Nat.{ℕ, zero, suc, _+_, _*_, _/_, _%_}
 use lib.Count.{ones}
-use lib.Dec.{ltb, eqb}
-use lib.ListN.{take}
+use lib.Dec.{ltb}
 use Rattle.laws.specs.Sums.{only}
-use Rattle.events.specs.Events.{maxEvents, inFew}
+use Rattle.events.specs.Events.{maxEvents}
 use Rattle.events.specs.declared.Event.{Event}
-use Rattle.events.specs.declared.Event.the-variants.{Nothing, OrderScreened, Cleared, SessionFailed, FillAllocated, RofrExercised, RofrClosed, FillSettled, FillSkipped, ClearingPrint, PhaseChanged}
-use Rattle.events.specs.declared.Events.{Events}
-use Rattle.listing.specs.declared.Record.{Record}
-use Rattle.listing.specs.declared.Brief.{Brief}
+use Rattle.events.specs.declared.Event.the-variants.{Nothing, OrderScreened, Cleared, SessionFailed, FillAllocated, RofrExercised, RofrClosed, FillSettled, FillSkipped, ClearingPrint, PhaseChanged, Opened, Ordered, Refused}
 use Rattle.listing.specs.Words.{openWord, orderWord, screenWord, clearWord, failedWord, fillWord, rofrWord, closeWord, settleWord, skipWord, printWord, phaseWord, refusedWord, noneWord, endWord, space, newline}
 
 -- 'the listing prints them in base ten': the last k digits of x at most, with no leading zero
@@ -32,7 +28,7 @@ fields (n ∷ ns) = (space ∷ decimal n) ++ fields ns
 unfoldable pub line : (number : ℕ) (word nums : List ℕ) → List ℕ
 line number word nums = (((decimal number ++ (space ∷ [])) ++ word) ++ fields nums) ++ (newline ∷ [])
 
--- the line of an event
+-- the line of an event; and `open`, `order I`, `refused R`, which are no events of the source
 abbrev pub eventLine : (number : ℕ) → Event → List ℕ
 eventLine number Nothing = line number noneWord []
 eventLine number (OrderScreened order exclusion) = line number screenWord (order ∷ exclusion ∷ [])
@@ -46,45 +42,19 @@ eventLine number (FillSkipped fill qty reason) = line number skipWord (fill ∷ 
 eventLine number (ClearingPrint p) =
     line number printWord (p .price ∷ p .volume ∷ p .«n_investor_ids» ∷ only (p .«forced_sale») 1 ∷ p .policy ∷ only (p .partial) 1 ∷ [])
 eventLine number (PhaseChanged from to) = line number phaseWord (from ∷ to ∷ [])
+eventLine number Opened = line number openWord []
+eventLine number (Ordered order) = line number orderWord (order ∷ [])
+eventLine number (Refused refusal) = line number refusedWord (refusal ∷ [])
 
 -- 'Event order is the source's'
 unfoldable pub eventLines : (number : ℕ) → List Event → List ℕ
 eventLines number [] = []
 eventLines number (e ∷ es) = eventLine number e ++ eventLines number es
 
--- the events that a struct holds
-abbrev pub eventsIn : Events → List Event
-eventsIn es = map (λ l. l .event) (take (min (es .count) maxEvents) (es .lines))
-
--- what a record is said to have done
-pub data Said : Type 0 where
-  opened : Said
-  ordered : (order : ℕ) → Said
-  refused : (refusal : ℕ) → Said
-  happened : List Event → Said
-
 -- the lines of a record: `none` where the source emits nothing
-abbrev pub recordLines : (number : ℕ) → Said → List ℕ
-recordLines number opened = line number openWord []
-recordLines number (ordered order) = line number orderWord (order ∷ [])
-recordLines number (refused refusal) = line number refusedWord (refusal ∷ [])
-recordLines number (happened []) = line number noneWord []
-recordLines number (happened (e ∷ es)) = eventLines number (e ∷ es)
-
--- the cases of the declared structs: 0 open, 1 order, 2 refused, else its events
-abbrev pub saidAs : (kind figure : ℕ) → List Event → Said
-saidAs kind figure l =
-    cond (eqb kind 0) opened
-    (cond (eqb kind 1) (ordered figure)
-    (cond (eqb kind 2) (refused figure)
-    (happened l)))
-
--- what is said of a record, and of a brief one
-unfoldable pub said : Record → Said
-said r = saidAs (r .kind) (r .figure) (eventsIn (r .events))
-
-unfoldable pub briefly : Brief → Said
-briefly b = saidAs (b .kind) (b .figure) (inFew (b .events))
+abbrev pub recordLines : (number : ℕ) → List Event → List ℕ
+recordLines number [] = line number noneWord []
+recordLines number (e ∷ es) = eventLines number (e ∷ es)
 
 -- 'Last: `end P S`, phase and the number of skipped fills counted from the bitmap, or `end none` without an accepted header'
 unfoldable pub endLine : (accepted : Bool) (phase skipped : ℕ) → List ℕ
@@ -96,7 +66,7 @@ abbrev pub maxDigits : ℕ
 maxDigits = 20
 
 abbrev pub maxLetters : ℕ
-maxLetters = 7
+maxLetters = 10
 
 abbrev pub maxFigures : ℕ
 maxFigures = 6

@@ -2,12 +2,12 @@
 ghost use mathlib.Core.Path.{_≡_};
 ghost use mathlib.Core.Bool.{cond};
 ghost use mathlib.Core.List.{map};
-ghost use Prim.Native.Nat.{_+_, _*_, _%_, _≤_, min};
+ghost use Prim.Native.Nat.{_+_, _*_, _%_, _<_, _≤_, min};
 ghost use lib.Count.{ones};
 ghost use lib.Dec.{leb};
 ghost use lib.ListN.{length, take};
-ghost use Rattle.events.specs.Events.{maxEvents, inFew};
-ghost use Rattle.listing.specs.Lines.{decimal, fields, eventLines, eventsIn, happened, recordLines, said, briefly, endLine, maxDigits, maxLetters, maxFigures, maxRest, maxLine, maxRecord};
+ghost use Rattle.events.specs.Events.{maxEvents, eventsIn, inFew};
+ghost use Rattle.listing.specs.Lines.{decimal, fields, recordLines, endLine, maxDigits, maxLetters, maxFigures, maxRest, maxLine, maxRecord};
 ghost use Rattle.listing.specs.Parts.{Short, rest, partsLine};
 ghost use Rattle.listing.specs.Writing.{Writes, Puts};
 use crate::words::Parts;
@@ -21,8 +21,8 @@ mod words;
 // The most digits of a number of 64 bits.
 const MAX_DIGITS: usize = 20;
 
-// The most letters of a word: `refused`.
-const MAX_LETTERS: usize = 7;
+// The most letters of a word.
+const MAX_LETTERS: usize = 10;
 
 // The most figures of a line: a print's.
 const MAX_FIGURES: usize = 6;
@@ -42,64 +42,40 @@ pub struct Written {
     pub len: usize,
 }
 
-// What is said of a record, by kind: 0 opened, 1 an order with its number, 2 refused with a number, 3 its events.
-pub struct Record {
-    pub kind: u8,
-    pub figure: u64,
-    pub events: Events,
-}
-
-// What is said of a record with at most two events; the kinds are those of a Record.
-pub struct Brief {
-    pub kind: u8,
-    pub figure: u64,
-    pub events: Few,
-}
-
-// The kinds below this have one line, with no event.
-const HAPPENED: u8 = 3;
-
-// A record's lines at the start of out; where they are longer than out, 27, and out is left as it was.
-pub fn put_record(out: &mut [u8], number: u64, record: Record) -> Written
-    ensures { λ r. ⌜ Writes (recordLines number (said «record»)) r (now (out .entry)) (now (out .exit)) ⌝ }
+// A record's lines at the start of out; where they are longer than out, 27, and out is left as it was. ROOM is always enough.
+pub fn put_events(out: &mut [u8], number: u64, events: Events) -> Written
+    ensures { λ r. ⌜ Writes (recordLines number (eventsIn events)) r (now (out .entry)) (now (out .exit)) × (maxRecord ≤ length (now (out .entry)) → r .refusal ≡ 0) ⌝ }
 {
     if ROOM <= out.len() {
-        let len = put_said(out, number, record);
+        let len = put_event_lines(out, number, events);
         return Written { refusal: 0, len };
     }
-    put_copied(out, number, record)
+    put_copied(out, number, events)
 }
 
-// A brief record's lines, likewise.
-pub fn put_brief(out: &mut [u8], number: u64, brief: Brief) -> Written
-    ensures { λ r. ⌜ Writes (recordLines number (briefly brief)) r (now (out .entry)) (now (out .exit)) ⌝ }
+// The lines of a record with at most two events, likewise.
+pub fn put_few(out: &mut [u8], number: u64, few: Few) -> Written
+    ensures { λ r. ⌜ Writes (recordLines number (inFew few)) r (now (out .entry)) (now (out .exit)) × (maxRecord ≤ length (now (out .entry)) → r .refusal ≡ 0) ⌝ }
 {
     if ROOM <= out.len() {
-        let len = put_briefly(out, number, brief);
+        let len = put_few_lines(out, number, few);
         return Written { refusal: 0, len };
     }
-    let few = brief.events;
-    let events = few.all();
-    let record = Record {
-        kind: brief.kind,
-        figure: brief.figure,
-        events,
-    };
-    put_copied(out, number, record)
+    put_copied(out, number, few.all())
 }
 
 // The same by way of a buffer, where out may be shorter than the lines.
-fn put_copied(out: &mut [u8], number: u64, record: Record) -> Written
-    ensures { λ r. ⌜ Writes (recordLines number (said «record»)) r (now (out .entry)) (now (out .exit)) ⌝ }
+fn put_copied(out: &mut [u8], number: u64, events: Events) -> Written
+    ensures { λ r. ⌜ Writes (recordLines number (eventsIn events)) r (now (out .entry)) (now (out .exit)) ⌝ }
 {
     let mut text = [0u8; ROOM];
-    let len = print_record(&mut text, number, record);
+    let len = put_event_lines(&mut text, number, events);
     put_text(out, &text[..len])
 }
 
 // The last line, likewise.
 pub fn put_end(out: &mut [u8], accepted: bool, phase: u8, skipped: u32) -> Written
-    ensures { λ r. ⌜ Writes (endLine accepted phase skipped) r (now (out .entry)) (now (out .exit)) ⌝ }
+    ensures { λ r. ⌜ Writes (endLine accepted phase skipped) r (now (out .entry)) (now (out .exit)) × (maxRecord ≤ length (now (out .entry)) → r .refusal ≡ 0) ⌝ }
 {
     if ROOM <= out.len() {
         let len = put_last(out, accepted, phase, skipped);
@@ -113,22 +89,8 @@ fn put_end_copied(out: &mut [u8], accepted: bool, phase: u8, skipped: u32) -> Wr
     ensures { λ r. ⌜ Writes (endLine accepted phase skipped) r (now (out .entry)) (now (out .exit)) ⌝ }
 {
     let mut text = [0u8; ROOM];
-    let len = print_end(&mut text, accepted, phase, skipped);
+    let len = put_last(&mut text, accepted, phase, skipped);
     put_text(out, &text[..len])
-}
-
-// A record's lines into a buffer that holds any record's: this and the next never refuse.
-pub fn print_record(out: &mut [u8; ROOM], number: u64, record: Record) -> usize
-    ensures { λ r. ⌜ Puts (recordLines number (said «record»)) 0 r (now (out .entry)) (now (out .exit)) × (r ≤ maxRecord) ⌝ }
-{
-    put_said(out, number, record)
-}
-
-// The last line into such a buffer.
-pub fn print_end(out: &mut [u8; ROOM], accepted: bool, phase: u8, skipped: u32) -> usize
-    ensures { λ r. ⌜ Puts (endLine accepted phase skipped) 0 r (now (out .entry)) (now (out .exit)) × (r ≤ maxRecord) ⌝ }
-{
-    put_last(out, accepted, phase, skipped)
 }
 
 // A text at the start of out; where it is longer than out, 27, and out is left as it was.
@@ -154,33 +116,16 @@ fn answer_for(len: usize, room: usize) -> Written
     Written { refusal: 0, len }
 }
 
-// The lines of a record, by its kind.
-fn put_said(out: &mut [u8], number: u64, record: Record) -> usize
-    requires { ⌜ maxRecord ≤ length (now out) ⌝ }
-    ensures { λ r. ⌜ Puts (recordLines number (said «record»)) 0 r (now (out .entry)) (now (out .exit)) × (r ≤ maxRecord) ⌝ }
-{
-    if record.kind < HAPPENED {
-        return put_line(
-            out,
-            0,
-            number,
-            words::said_parts(record.kind, record.figure),
-        );
-    }
-    let events = record.events;
-    let lines = events.lines;
-    put_events(out, number, lines, events.count)
-}
-
 // `none`, or a line for each event.
-fn put_events(out: &mut [u8], number: u64, lines: [Line; MAX_EVENTS], count: usize) -> usize
+fn put_event_lines(out: &mut [u8], number: u64, events: Events) -> usize
     requires { ⌜ maxRecord ≤ length (now out) ⌝ }
-    ensures { λ r. ⌜ Puts (recordLines number (happened (eventsIn (record { lines = lines; count = count })))) 0 r (now (out .entry)) (now (out .exit)) × (r ≤ maxRecord) ⌝ }
+    ensures { λ r. ⌜ Puts (recordLines number (eventsIn events)) 0 r (now (out .entry)) (now (out .exit)) × (r ≤ maxRecord) ⌝ }
 {
-    let n = held(count);
+    let n = held(events.count);
     if n == 0 {
-        return put_line(out, 0, number, words::bare(words::NONE));
+        return put_line(out, number, words::bare(words::NONE));
     }
+    let lines = events.lines;
     put_lines(out, number, lines, n)
 }
 
@@ -195,57 +140,45 @@ fn held(count: usize) -> usize
     }
 }
 
-// The lines of the first n events.
+// The lines of the first n events, where n is 1 or more.
 fn put_lines(out: &mut [u8], number: u64, lines: [Line; MAX_EVENTS], n: usize) -> usize
-    requires { ⌜ (n ≤ maxEvents) × (maxRecord ≤ length (now out)) ⌝ }
-    ensures { λ r. ⌜ Puts (eventLines number (map (λ l. l .event) (take n lines))) 0 r (now (out .entry)) (now (out .exit)) × (r ≤ maxRecord) ⌝ }
+    requires { ⌜ (0 < n) × (n ≤ maxEvents) × (maxRecord ≤ length (now out)) ⌝ }
+    ensures { λ r. ⌜ Puts (recordLines number (map (λ l. l .event) (take n lines))) 0 r (now (out .entry)) (now (out .exit)) × (r ≤ maxRecord) ⌝ }
 {
     let mut k = 0;
     let mut i = 0;
     while i < n {
         let line = lines[i];
         let event = line.event;
-        k = put_line(out, k, number, words::parts_of(event));
+        k = k + put_line(&mut out[k..], number, words::parts_of(event));
         i += 1;
     }
     k
 }
 
-// The lines of a brief record, by its kind.
-fn put_briefly(out: &mut [u8], number: u64, brief: Brief) -> usize
-    requires { ⌜ maxRecord ≤ length (now out) ⌝ }
-    ensures { λ r. ⌜ Puts (recordLines number (briefly brief)) 0 r (now (out .entry)) (now (out .exit)) × (r ≤ maxRecord) ⌝ }
-{
-    if brief.kind < HAPPENED {
-        return put_line(out, 0, number, words::said_parts(brief.kind, brief.figure));
-    }
-    let few = brief.events;
-    put_few(out, number, few)
-}
-
 // `none`, or a line for each of at most two events.
-fn put_few(out: &mut [u8], number: u64, few: Few) -> usize
+fn put_few_lines(out: &mut [u8], number: u64, few: Few) -> usize
     requires { ⌜ maxRecord ≤ length (now out) ⌝ }
-    ensures { λ r. ⌜ Puts (recordLines number (happened (inFew few))) 0 r (now (out .entry)) (now (out .exit)) × (r ≤ maxRecord) ⌝ }
+    ensures { λ r. ⌜ Puts (recordLines number (inFew few)) 0 r (now (out .entry)) (now (out .exit)) × (r ≤ maxRecord) ⌝ }
 {
     if few.count == 0 {
-        return put_line(out, 0, number, words::bare(words::NONE));
+        return put_line(out, number, words::bare(words::NONE));
     }
     let first = few.first;
-    let k = put_line(out, 0, number, words::parts_of(first));
+    let k = put_line(out, number, words::parts_of(first));
     if few.count == 1 {
         return k;
     }
     let second = few.second;
-    put_line(out, k, number, words::parts_of(second))
+    k + put_line(&mut out[k..], number, words::parts_of(second))
 }
 
-// A line: the record's number, a space, and the rest.
-fn put_line(out: &mut [u8], at: usize, number: u64, parts: Parts) -> usize
-    requires { ⌜ Short parts × (at + maxLine ≤ length (now out)) ⌝ }
-    ensures { λ r. ⌜ Puts (partsLine number parts) at r (now (out .entry)) (now (out .exit)) × (r ≤ at + maxLine) ⌝ }
+// A line in the part after the lines already there, and its length: the record's number, a space, and the rest.
+fn put_line(out: &mut [u8], number: u64, parts: Parts) -> usize
+    requires { ⌜ Short parts × (maxLine ≤ length (now out)) ⌝ }
+    ensures { λ r. ⌜ Puts (partsLine number parts) 0 r (now (out .entry)) (now (out .exit)) × (r ≤ maxLine) ⌝ }
 {
-    let k = put_dec(out, at, number);
+    let k = put_dec(out, 0, number);
     out[k] = b' ';
     put_rest(out, k + 1, parts)
 }

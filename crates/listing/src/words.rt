@@ -1,10 +1,8 @@
 // The words of a listing, and the word and the figures of each event's line.
 ghost use mathlib.Core.Path.{_≡_};
-ghost use mathlib.Core.List.{List, [], _∷_};
-ghost use Prim.Native.Nat.{ℕ, _<_};
+ghost use mathlib.Core.List.{[], _∷_};
 ghost use Rattle.laws.specs.Sums.{only};
-ghost use Rattle.listing.specs.Lines.{eventLine, recordLines, saidAs};
-ghost use Rattle.listing.specs.Parts.{Short, parts, partsLine};
+ghost use Rattle.listing.specs.Parts.{parts, printParts, partsOf};
 use crate::MAX_FIGURES;
 use crate::MAX_LETTERS;
 use events::Event;
@@ -13,35 +11,35 @@ use events::Print;
 // A word: its letters, with spaces after them, and how many they are.
 pub struct Word(pub [u8; MAX_LETTERS], pub usize);
 
-const OPEN: Word = Word(*b"open   ", 4);
+const OPEN: Word = Word(*b"open      ", 4);
 
-const ORDER: Word = Word(*b"order  ", 5);
+const ORDER: Word = Word(*b"order     ", 5);
 
-const SCREEN: Word = Word(*b"screen ", 6);
+const SCREEN: Word = Word(*b"screen    ", 6);
 
-const CLEAR: Word = Word(*b"clear  ", 5);
+const CLEAR: Word = Word(*b"clear     ", 5);
 
-const FAILED: Word = Word(*b"failed ", 6);
+const FAILED: Word = Word(*b"failed    ", 6);
 
-const FILL: Word = Word(*b"fill   ", 4);
+const FILL: Word = Word(*b"fill      ", 4);
 
-const ROFR: Word = Word(*b"rofr   ", 4);
+const ROFR: Word = Word(*b"rofr      ", 4);
 
-const CLOSE: Word = Word(*b"close  ", 5);
+const CLOSE: Word = Word(*b"close     ", 5);
 
-const SETTLE: Word = Word(*b"settle ", 6);
+const SETTLE: Word = Word(*b"settle    ", 6);
 
-const SKIP: Word = Word(*b"skip   ", 4);
+const SKIP: Word = Word(*b"skip      ", 4);
 
-const PRINT: Word = Word(*b"print  ", 5);
+const PRINT: Word = Word(*b"print     ", 5);
 
-const PHASE: Word = Word(*b"phase  ", 5);
+const PHASE: Word = Word(*b"phase     ", 5);
 
-const REFUSED: Word = Word(*b"refused", 7);
+const REFUSED: Word = Word(*b"refused   ", 7);
 
-pub const NONE: Word = Word(*b"none   ", 4);
+pub const NONE: Word = Word(*b"none      ", 4);
 
-pub const END: Word = Word(*b"end    ", 3);
+pub const END: Word = Word(*b"end       ", 3);
 
 // A line after its record's number: a word and the first so many of the figures.
 pub struct Parts {
@@ -50,20 +48,9 @@ pub struct Parts {
     pub nums: [u64; MAX_FIGURES],
 }
 
-// The word and the figure of a record without events: opened, an order, or refused.
-pub fn said_parts(kind: u8, figure: u64) -> Parts
-    ensures { λ r. ⌜ Short r × (kind < 3 → (number : ℕ) (l : List Event) → partsLine number r ≡ recordLines number (saidAs kind figure l)) ⌝ }
-{
-    match kind {
-        0 => bare(OPEN),
-        1 => one(ORDER, figure),
-        _ => one(REFUSED, figure),
-    }
-}
-
 // The word and the figures of an event's line.
 pub fn parts_of(e: Event) -> Parts
-    ensures { λ r. ⌜ Short r × ((number : ℕ) → partsLine number r ≡ eventLine number e) ⌝ }
+    ensures { λ r. ⌜ r ≡ partsOf e ⌝ }
 {
     match e {
         Event::Nothing => bare(NONE),
@@ -92,6 +79,9 @@ pub fn parts_of(e: Event) -> Parts
         Event::FillSkipped { fill, qty, reason } => three(SKIP, fill as u64, qty, reason as u64),
         Event::ClearingPrint(print) => print_parts(print),
         Event::PhaseChanged { from, to } => two(PHASE, from as u64, to as u64),
+        Event::Opened => bare(OPEN),
+        Event::Ordered(order) => one(ORDER, order),
+        Event::Refused(refusal) => one(REFUSED, refusal as u64),
     }
 }
 
@@ -148,7 +138,7 @@ fn four(word: Word, a: u64, b: u64, c: u64, d: u64) -> Parts
 
 // A print's line.
 fn print_parts(p: Print) -> Parts
-    ensures { λ r. ⌜ Short r × ((number : ℕ) → partsLine number r ≡ eventLine number (Event.ClearingPrint p)) ⌝ }
+    ensures { λ r. ⌜ r ≡ printParts p ⌝ }
 {
     Parts {
         word: PRINT,

@@ -7,14 +7,17 @@ use Rattle.listing.proofs.Answers.{within, printed}
 use Rattle.listing.proofs.put_copied.Statement.{statement}
 use Rattle.listing.proofs.put_copied.Tie as tie
 
-print-record-requires : tie.Need-print-record-requires
-print-record-requires c κs = search needs
+slice-aggregate-put-event-lines : tie.Need-slice-aggregate-put-event-lines
+slice-aggregate-put-event-lines c = search needs
+
+put-event-lines-requires : tie.Need-put-event-lines-requires
+put-event-lines-requires c κs = search needs
 
 array-share-prefix-text : tie.Need-array-share-prefix-text
-array-share-prefix-text c = within (c .before .print-record .ensures .0)
+array-share-prefix-text c = search needs
 
 slice-aggregate-put-text : tie.Need-slice-aggregate-put-text
-slice-aggregate-put-text c = sym (length-take-le _ _ (within (c .before .before .print-record .ensures .0)))
+slice-aggregate-put-text c = sym (length-take-le _ _ (within (c .before .before .before .put-event-lines .ensures .0)))
 
 put-text-requires : tie.Need-put-text-requires
 put-text-requires c κs = search needs
@@ -23,13 +26,14 @@ same-length : tie.Need-same-length
 same-length c = search needs
 
 returns : tie.Need-returns
-returns c = rw (printed (c .before .before .before .before .before .print-record .ensures .0)) at (c .before .before .put-text .ensures)
+returns c = rw (printed (c .before .before .before .before .before .before .put-event-lines .ensures .0)) at (c .before .before .put-text .ensures)
 
 pub put-copied-spec : {M : Type 1} → statement M
 put-copied-spec =
     tie.close
     (tie.spec
-    print-record-requires
+    slice-aggregate-put-event-lines
+    put-event-lines-requires
     array-share-prefix-text
     slice-aggregate-put-text
     put-text-requires

@@ -1,5 +1,7 @@
 -- `listing::put_end` meets its contract: in place where there is room for any record's lines, else by way of the buffer.
 -- Assumes nothing.
+use mathlib.Core.Path.{refl}
+use native.Mathlib.Omega.{arith}
 use borrow.Author.Needs.{needs}
 use Rattle.listing.proofs.Answers.{in-place}
 use Rattle.listing.proofs.put_end.Statement.{statement}
@@ -14,7 +16,7 @@ same-length c = search needs
 returns : tie.Need-returns
 returns c =
     let p = c .before .before .put-last .ensures in
-    in-place (p .0) (p .1) (c .before .before .before .before .if1 .taken)
+    (in-place (p .0) (p .1) (c .before .before .before .before .if1 .taken), λ room. refl)
 
 put-end-copied-requires : tie.Need-put-end-copied-requires
 put-end-copied-requires c κs = search needs
@@ -23,7 +25,7 @@ same-length-2 : tie.Need-same-length-2
 same-length-2 c = search needs
 
 returns-2 : tie.Need-returns-2
-returns-2 c = search needs
+returns-2 c = (c .before .before .put-end-copied .ensures, λ room. absurd (omega arith))
 
 pub put-end-spec : {M : Type 1} → statement M
 put-end-spec =

@@ -1,72 +1,47 @@
--- `listing::put_few` meets its contract: without an event `none`, else the line of the first and that of the second.
+-- `listing::put_few` meets its contract: in place where any record's lines fit, else as the record with the same events.
 -- Assumes nothing.
+use mathlib.Core.Path.{refl}
 use native.Mathlib.Omega.{arith}
 use borrow.Author.Needs.{needs}
-use Rattle.events.proofs.Packed.{both-held}
-use Rattle.listing.proofs.Spliced.{puts-puts}
-use Rattle.listing.proofs.Lines.{lines-one, lines-two}
+use Rattle.events.proofs.Packed.{few-packed}
+use Rattle.listing.proofs.Answers.{in-place}
 use Rattle.listing.proofs.put_few.Statement.{statement}
 use Rattle.listing.proofs.put_few.Tie as tie
 
-bare-requires : tie.Need-bare-requires
-bare-requires c κs = search needs
-
-put-line-requires : tie.Need-put-line-requires
-put-line-requires c κs = rw (c .bare .ensures) (omega arith)
+put-few-lines-requires : tie.Need-put-few-lines-requires
+put-few-lines-requires c κs = search needs
 
 same-length : tie.Need-same-length
 same-length c = search needs
 
 returns : tie.Need-returns
 returns c =
-    let p = c .before .before in
-    (rw (p .before .before .before .if1 .taken) (rw (p .before .bare .ensures) at (p .put-line .ensures .0)), omega arith)
+    let p = c .before .before .put-few-lines .ensures in
+    (in-place (p .0) (p .1) (c .before .before .before .before .if1 .taken), λ room. refl)
 
-parts-of-requires : tie.Need-parts-of-requires
-parts-of-requires c κs = search needs
+all-requires : tie.Need-all-requires
+all-requires c κs = search needs
 
-put-line-requires-2 : tie.Need-put-line-requires-2
-put-line-requires-2 c κs = search needs
+put-copied-requires : tie.Need-put-copied-requires
+put-copied-requires c κs = search needs
 
 same-length-2 : tie.Need-same-length-2
 same-length-2 c = search needs
 
 returns-2 : tie.Need-returns-2
 returns-2 c =
-    let p = c .before .before .before .before in
-    (rw (c .if2 .taken, lines-one) (rw (p .before .parts-of .ensures .1) at (p .put-line2 .ensures .0)), omega arith)
-
-parts-of-requires-2 : tie.Need-parts-of-requires-2
-parts-of-requires-2 c κs = search needs
-
-put-line-requires-3 : tie.Need-put-line-requires-3
-put-line-requires-3 c κs = search needs
-
-same-length-3 : tie.Need-same-length-3
-same-length-3 c = search needs
-
-returns-3 : tie.Need-returns-3
-returns-3 c =
-    let q = c .before .before in
-    let p = q .before .before .before .before .before .before .before in
-    let s = p .before .before .before .before .before .before in
-    let first = rw (p .before .parts-of .ensures .1) at (p .put-line2 .ensures .0) in
-    let second = rw (q .before .parts-of2 .ensures .1) at (q .put-line3 .ensures .0) in
-    (rw (both-held (s .args .few) (omega arith), lines-two) (puts-puts first second (omega arith)), omega arith)
+    let p = c .before .before in
+    let a = p .before in
+    (rw (← few-packed (a .before .before .before .before .args .few), ← a .all .ensures) (p .put-copied .ensures), λ room. absurd (omega arith))
 
 pub put-few-spec : {M : Type 1} → statement M
 put-few-spec =
     tie.close
     (tie.spec
-    bare-requires
-    put-line-requires
+    put-few-lines-requires
     same-length
     returns
-    parts-of-requires
-    put-line-requires-2
+    all-requires
+    put-copied-requires
     same-length-2
-    returns-2
-    parts-of-requires-2
-    put-line-requires-3
-    same-length-3
-    returns-3)
+    returns-2)

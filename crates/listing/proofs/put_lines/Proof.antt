@@ -1,14 +1,15 @@
--- `listing::put_lines` meets its contract. The invariant: the lines of the first i events are written, each in at most 155 bytes.
+-- `listing::put_lines` meets its contract. The invariant: the lines of the first i events are written, each in at most `maxLine` bytes.
 -- Assumes nothing.
 use mathlib.Core.Path.{_≡_, refl, _∙_}
 use Prim.Native.Nat.{_*_, _-_, _≤_}
 use native.Mathlib.Omega.{arith}
-use lib.ListN.{length, take}
+use lib.ListN.{length, take, length-take, length-drop}
 use borrow.Author.Needs.{needs}
 use Rattle.listing.specs.Lines.{eventLines, maxLine}
 use Rattle.listing.specs.Writing.{Puts}
-use Rattle.listing.proofs.Spliced.{puts-none}
-use Rattle.listing.proofs.Lines.{eventsOf, lines-none, puts-event}
+use Rattle.listing.proofs.Spliced.{length-puts, puts-none, puts-part}
+use Rattle.listing.proofs.Parts.{event-short, event-line}
+use Rattle.listing.proofs.Lines.{eventsOf, lines-none, puts-event, some-lines}
 use Rattle.listing.proofs.put_lines.Statement.{statement}
 use Rattle.listing.proofs.put_lines.Tie as tie
 
@@ -27,11 +28,23 @@ mul-line c = search needs
 array-copy-out-line : tie.Need-array-copy-out-line Inv-loop μ-loop
 array-copy-out-line c = omega arith
 
+sub-put-line : tie.Need-sub-put-line Inv-loop μ-loop
+sub-put-line c = omega arith
+
+part-put-line-start : tie.Need-part-put-line-start Inv-loop μ-loop
+part-put-line-start c = omega arith
+
+part-put-line-end : tie.Need-part-put-line-end Inv-loop μ-loop
+part-put-line-end c = search needs
+
 parts-of-requires : tie.Need-parts-of-requires Inv-loop μ-loop
 parts-of-requires c κs = tt
 
 put-line-requires : tie.Need-put-line-requires Inv-loop μ-loop
-put-line-requires c κs = (c .parts-of .ensures .0, omega arith)
+put-line-requires c κs = rw (c .parts-of .ensures) (event-short _, simp (length-take, length-drop) (omega arith))
+
+add-k : tie.Need-add-k Inv-loop μ-loop
+add-k c = omega arith
 
 add-i : tie.Need-add-i Inv-loop μ-loop
 add-i c = omega arith
@@ -44,11 +57,12 @@ loop-again c =
     let p = c .before .before .put-line in
     let parts = c .before .before .before .parts-of in
     let l = c .before .before .before .before .before .before .before .loop in
-    let s = c .before .before .before .before .before .before .before .before .before in (
+    let s = c .before .before .before .before .before .before .before .before .before in
+    let v = puts-part (l .k) (l .out) (rw (parts .ensures, event-line) at (p .ensures .0)) in (
       omega arith,
-      p .kept .0 ∙ l .inv .1,
+      length-puts v (omega arith) ∙ l .inv .1,
       omega arith,
-      puts-event (s .args .number) (l .i) (s .args .t3) _ (parts .result) (l .inv .3) (p .ensures .0) (parts .ensures .1) (omega arith),
+      puts-event (s .args .number) (l .i) (s .args .t3) _ (l .inv .3) v (omega arith),
     )
 
 same-length : tie.Need-same-length Inv-loop μ-loop
@@ -57,8 +71,9 @@ same-length c = c .before .loop .inv .1
 returns : tie.Need-returns Inv-loop μ-loop
 returns c =
     let l = c .before .loop in
-    let n : l .i ≡ c .before .before .before .args .n = omega arith in
-    (rw n at (l .inv .3), omega arith)
+    let s = c .before .before .before in
+    let n : l .i ≡ s .args .n = omega arith in
+    (rw (some-lines _ (s .args .n) (s .args .t3) (omega arith) (omega arith)) (rw n at (l .inv .3)), omega arith)
 
 pub put-lines-spec : {M : Type 1} → statement M
 put-lines-spec =
@@ -69,8 +84,12 @@ put-lines-spec =
     loop-holds
     mul-line
     array-copy-out-line
+    sub-put-line
+    part-put-line-start
+    part-put-line-end
     parts-of-requires
     put-line-requires
+    add-k
     add-i
     loop-less
     loop-again

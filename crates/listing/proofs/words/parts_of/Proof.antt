@@ -1,8 +1,7 @@
 -- `listing::words::parts_of` meets its contract, event by event.
 -- Assumes nothing.
-use mathlib.Core.Path.{refl}
-use native.Mathlib.Omega.{arith}
 use borrow.Author.Needs.{needs}
+use Rattle.listing.specs.Parts.{partsOf}
 use Rattle.listing.proofs.words.parts_of.Statement.{statement}
 use Rattle.listing.proofs.words.parts_of.Tie as tie
 
@@ -111,38 +110,82 @@ cast-two-4 c = search needs
 two-requires-2 : tie.Need-two-requires-2
 two-requires-2 c κs = search needs
 
+enum-told-2 : tie.Need-enum-told-2
+enum-told-2 c = search needs
+
+bare-requires-2 : tie.Need-bare-requires-2
+bare-requires-2 c κs = search needs
+
+enum-known-e-11 : tie.Need-enum-known-e-11
+enum-known-e-11 c = search needs
+
+one-requires-3 : tie.Need-one-requires-3
+one-requires-3 c κs = search needs
+
+enum-known-e-12 : tie.Need-enum-known-e-12
+enum-known-e-12 c = search needs
+
+cast-one-2 : tie.Need-cast-one-2
+cast-one-2 c = search needs
+
+one-requires-4 : tie.Need-one-requires-4
+one-requires-4 c κs = search needs
+
 returns : tie.Need-returns
-returns c = rw (c .bare .ensures, c .before .enum-told .given .1) (omega arith, λ n. refl)
+unfolding partsOf
+returns c = rw (c .bare .ensures, c .before .enum-told .given .1)
 
 returns-2 : tie.Need-returns-2
-returns-2 c = rw (c .two .ensures, c .before .before .e .given .1) (omega arith, λ n. refl)
+unfolding partsOf
+returns-2 c = rw (c .two .ensures, c .before .before .e .given .1)
 
 returns-3 : tie.Need-returns-3
-returns-3 c = rw (c .four .ensures, c .before .before .e2 .given .1) (omega arith, λ n. refl)
+unfolding partsOf
+returns-3 c = rw (c .four .ensures, c .before .before .e2 .given .1)
 
 returns-4 : tie.Need-returns-4
-returns-4 c = rw (c .one .ensures, c .before .before .e3 .given .1) (omega arith, λ n. refl)
+unfolding partsOf
+returns-4 c = rw (c .one .ensures, c .before .before .e3 .given .1)
 
 returns-5 : tie.Need-returns-5
-returns-5 c = rw (c .four2 .ensures, c .before .before .e4 .given .1) (omega arith, λ n. refl)
+unfolding partsOf
+returns-5 c = rw (c .four2 .ensures, c .before .before .e4 .given .1)
 
 returns-6 : tie.Need-returns-6
-returns-6 c = rw (c .four3 .ensures, c .before .before .e5 .given .1) (omega arith, λ n. refl)
+unfolding partsOf
+returns-6 c = rw (c .four3 .ensures, c .before .before .e5 .given .1)
 
 returns-7 : tie.Need-returns-7
-returns-7 c = rw (c .one2 .ensures, c .before .before .e6 .given .1) (omega arith, λ n. refl)
+unfolding partsOf
+returns-7 c = rw (c .one2 .ensures, c .before .before .e6 .given .1)
 
 returns-8 : tie.Need-returns-8
-returns-8 c = rw (c .three .ensures, c .before .before .e7 .given .1) (omega arith, λ n. refl)
+unfolding partsOf
+returns-8 c = rw (c .three .ensures, c .before .before .e7 .given .1)
 
 returns-9 : tie.Need-returns-9
-returns-9 c = rw (c .three2 .ensures, c .before .before .e8 .given .1) (omega arith, λ n. refl)
+unfolding partsOf
+returns-9 c = rw (c .three2 .ensures, c .before .before .e8 .given .1)
 
 returns-10 : tie.Need-returns-10
-returns-10 c = rw (c .before .before .e9 .given .1) (c .print-parts .ensures)
+unfolding partsOf
+returns-10 c = rw (c .print-parts .ensures, c .before .before .e9 .given .1)
 
 returns-11 : tie.Need-returns-11
-returns-11 c = rw (c .two2 .ensures, c .before .before .e10 .given .1) (omega arith, λ n. refl)
+unfolding partsOf
+returns-11 c = rw (c .two2 .ensures, c .before .before .e10 .given .1)
+
+returns-12 : tie.Need-returns-12
+unfolding partsOf
+returns-12 c = rw (c .bare2 .ensures, c .before .enum-told2 .given .1)
+
+returns-13 : tie.Need-returns-13
+unfolding partsOf
+returns-13 c = rw (c .one3 .ensures, c .before .before .e11 .given .1)
+
+returns-14 : tie.Need-returns-14
+unfolding partsOf
+returns-14 c = rw (c .one4 .ensures, c .before .before .e12 .given .1)
 
 pub parts-of-spec : {M : Type 1} → statement M
 parts-of-spec =
@@ -183,6 +226,13 @@ parts-of-spec =
     cast-two-3
     cast-two-4
     two-requires-2
+    enum-told-2
+    bare-requires-2
+    enum-known-e-11
+    one-requires-3
+    enum-known-e-12
+    cast-one-2
+    one-requires-4
     returns
     returns-2
     returns-3
@@ -193,4 +243,7 @@ parts-of-spec =
     returns-8
     returns-9
     returns-10
-    returns-11)
+    returns-11
+    returns-12
+    returns-13
+    returns-14)

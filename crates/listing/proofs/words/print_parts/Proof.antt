@@ -1,7 +1,5 @@
 -- `listing::words::print_parts` meets its contract: by what `bit` ensures of the two flags.
 -- Assumes nothing.
-use mathlib.Core.Path.{refl}
-use native.Mathlib.Omega.{arith}
 use borrow.Author.Needs.{needs}
 use Rattle.listing.proofs.words.print_parts.Statement.{statement}
 use Rattle.listing.proofs.words.print_parts.Tie as tie
@@ -16,7 +14,7 @@ bit-requires-2 : tie.Need-bit-requires-2
 bit-requires-2 c κs = search needs
 
 returns : tie.Need-returns
-returns c = rw (c .before .before .bit .ensures, c .bit2 .ensures) (omega arith, λ n. refl)
+returns c = rw (c .before .before .bit .ensures, c .bit2 .ensures)
 
 pub print-parts-spec : {M : Type 1} → statement M
 print-parts-spec = tie.close (tie.spec bit-requires cast-t5 bit-requires-2 returns)
