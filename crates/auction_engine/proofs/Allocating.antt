@@ -1,5 +1,6 @@
 -- The answer of an allocate, by its stages: the checks, the turns, the last answer. Assumes nothing.
 use mathlib.Core.Path.{_≡_, refl, sym, _∙_, ap, ap₂}
+use mathlib.Core.Logic.{_≢_}
 use mathlib.Core.Bool.{true, false, not}
 use mathlib.Core.List.{[], _∷_, _++_, append-nil}
 use Prim.Native.Nat.{ℕ, _≤_}
@@ -20,10 +21,10 @@ use Rattle.auction_engine.specs.declared.Answer.{Answer}
 use Rattle.auction_engine.specs.Session.{atPhase}
 use Rattle.auction_engine.specs.Call.{allocate, admits, limitsRefusal, fieldsRefusal, argumentsRefusal}
 use Rattle.auction_engine.specs.Matching.{allocateChecks, crank, overfull, fillEvents, done, phaseAfter, allocateRefusal, allocateEffect, allocateEvents}
-use Rattle.auction_engine.specs.Cranks.{Turned}
 use Rattle.auction_engine.specs.Engine.{ownRefusal, refusal, effect, events, refusedBy, answer}
 use Rattle.auction_engine.proofs.Checks.{Within, checked-within, in-stages}
 use Rattle.auction_engine.proofs.Answers.{refused-answer, accepted-answer}
+use Rattle.auction_engine.proofs.Turns.{Turned}
 use Rattle.auction_engine.proofs.Cranks.{crank-phase-after, crank-orders, events-fit}
 
 pub checks-within : (s : Session) → allocateChecks s ≡ 0 → Within s
@@ -38,12 +39,17 @@ module _ (s : Session) (now : ℤ) (n : ℕ) where
       ∙ in-stages s (allocate now n)
 
   -- refused by those checks; past them, the turns decide
+  pub allocate-number : (m : ℕ) → m ≡ allocateChecks s → (m ≡ 0 → ⊥) → m ≡ refusal s (allocate now n)
+  allocate-number m e z = then-stop m (unless (not (overfull n s)) 18) z ∙ ap (λ (x : ℕ). x then unless (not (overfull n s)) 18) e ∙ allocate-stages
+
   pub allocate-refused : (m : ℕ) (r : Answer) → m ≡ allocateChecks s → (m ≡ 0 → ⊥) → r ≡ refusedBy s m → r ≡ answer s (allocate now n)
-  allocate-refused m r e z f =
-      refused-answer s (allocate now n) m (then-stop m (unless (not (overfull n s)) 18) z ∙ ap (λ (x : ℕ). x then unless (not (overfull n s)) 18) e ∙ allocate-stages) r f z
+  allocate-refused m r e z f = refused-answer s (allocate now n) m (allocate-number m e z) r f z
 
   pub turns-decide : (r : Answer) → allocateChecks s ≡ 0 → Turned s n r → r .refusal ≡ refusal s (allocate now n)
   turns-decide r z t = t .refusal ∙ then-pass (allocateChecks s) (unless (not (overfull n s)) 18) z ∙ allocate-stages
+
+  pub turns-refuse : (r : Answer) → allocateChecks s ≡ 0 → Turned s n r → r .refusal ≢ 0 → r ≡ answer s (allocate now n)
+  turns-refuse r z t f = refused-answer s (allocate now n) (r .refusal) (turns-decide r z t) r (t .refused f) f
 
 -- an accepted call's effect and events, by whether every lot is paired
 module _ (s : Session) (n : ℕ) where

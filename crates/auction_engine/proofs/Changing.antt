@@ -1,7 +1,7 @@
 -- Changes as the code comes to them, and what they are answered as. Assumes nothing.
 use mathlib.Core.Path.{_≡_, refl, _∙_, ap}
 use mathlib.Core.Logic.{_≢_, ⊎-elim}
-use mathlib.Core.Bool.{Bool, true, false, cond}
+use mathlib.Core.Bool.{Bool, true, false, cond, not, _&&_}
 use mathlib.Core.List.{List, [], _∷_, _++_}
 use Prim.Native.Nat.{ℕ, _<_, _≤_}
 use native.Mathlib.Omega.{arith}
@@ -9,7 +9,10 @@ use lib.Dec.{eqb, leb}
 use lib.ListN.{length}
 use lib.Seq.{set-getD}
 use lib.IntN.{ℤ}
+use lib.Signed.{ltZ}
 use borrow.Author.Tests.{eq-eqb, ne-eqb, eqb-true, eqb-false, lt-leb}
+use Rattle.laws.specs.Sums.{only}
+use Rattle.laws.specs.Checks.{_then_}
 use Rattle.laws.proofs.Tests.{tested}
 use Rattle.credit_math.specs.Limits.{maxOrders}
 use Rattle.book.specs.Limits.{maxFills}
@@ -23,8 +26,8 @@ use Rattle.events.proofs.Packed.{in-few}
 use Rattle.auction_engine.specs.declared.Session.{Session}
 use Rattle.auction_engine.specs.declared.CallRecord.{CallRecord}
 use Rattle.auction_engine.specs.declared.changes.Change.{Change}
-use Rattle.auction_engine.specs.Call.{Call, screen, clear, allocate, exercise, close, settle, skip, finish, expire}
-use Rattle.auction_engine.specs.Session.{orderAt, fillAt, atPhase, settling, printed, failed, clearing}
+use Rattle.auction_engine.specs.Call.{Call, screen, clear, allocate, exercise, close, settle, skip, finish, expire, admits, limitsRefusal, inWindow}
+use Rattle.auction_engine.specs.Session.{orderAt, fillAt, rofrEnd, atPhase, settling, printed, failed, clearing}
 use Rattle.auction_engine.specs.Screening.{exclusionOf, screenEffect, screenEvents}
 use Rattle.auction_engine.specs.Rofr.{closeEffect, closeEvents}
 use Rattle.auction_engine.specs.Settlement.{settleEffect, settleEvents, skipEffect, skipEvents, finishEffect, finishEvents, expireEffect, expireEvents}
@@ -32,7 +35,7 @@ use Rattle.auction_engine.specs.Engine.{refusal, effect, events, refused
 use Rattle.auction_engine.specs.Changes.{writing, standing, unchanged, changeAt, early, changeOf, changeFor, changed, madeOf}
 use Rattle.auction_engine.proofs.Answers.{refused-answer}
 use Rattle.auction_engine.proofs.Clears.{stops-early}
-use Rattle.auction_engine.proofs.Allocating.{allocate-refused}
+use Rattle.auction_engine.proofs.Allocating.{allocate-number}
 use Rattle.auction_engine.proofs.Places.{screen-place, settle-place, skip-place}
 
 -- ---- the change of a call, from the number of its refusal as the code found it
@@ -49,7 +52,7 @@ module _ (r : CallRecord) (s : Session) where
   unfolding changeFor
   change-as k e t c f n is = rw (ap (λ m. leb m 8) e ∙ t, f) is
 
-  pub change-unknown : 8 < r .kind → (n : Change) → n ≡ unchanged s 4 → n ≡ changeFor s r
+  pub change-unknown : 8 < r .kind → (n : Change) → n ≡ unchanged s (limitsRefusal s then 4) → n ≡ changeFor s r
   unfolding changeFor
   change-unknown h n is = rw (lt-leb (r .kind) 8 h) is
 
@@ -70,7 +73,19 @@ made-at s c i o j f w = go (eqb (refusal s c) 0)
     go true = rw (w .0, in-few (events s c) (w .1))
     go false = rw (kept s (refusal s c) (few []))
 
--- ---- one refused before it is worked out
+-- ---- a clear, an allocate, an exercise: undecided where the test t holds, else refused by m
+module _ (s : Session) (t : Bool) (m : ℕ) (r : Change) where
+  pub undecided-change : r ≡ early s 0 → t ≡ true → r ≡ early s (only (not t) m)
+  undecided-change e h = rw h e
+
+  pub sure-change : r ≡ early s m → t ≡ false → r ≡ early s (only (not t) m)
+  sure-change e h = rw h e
+
+-- a number that is kept is that number
+kept-number : (t : Bool) (m k : ℕ) → (m ≢ 0 → m ≡ k) → only t m ≢ 0 → only t m ≡ k
+kept-number true m k h z = h z
+kept-number false m k h z = absurd (z refl)
+
 made-early : (s : Session) (c : Call) (n : ℕ) → (n ≢ 0 → refusedBy s n ≡ answer s c) → eqb n 0 ≡ false → madeOf s (early s n) ≡ answer s c
 made-early s c n h t = rw (set-getD (s .orders) 0 noOrder, set-getD (s .fills) 0 noFill) (h (eqb-false n 0 t))
 
@@ -112,28 +127,31 @@ module _ (s : Session) where
   unfolding changeOf effect events expireEffect expireEvents
   made-expire now = made-at s (expire now) 0 _ 0 _ (phase-writes (expire now) failed refl (omega arith))
 
-  -- every call that is not left to the whole session
-  made-call : (c : Call) → changeOf s c .whole ≡ false → madeOf s (changeOf s c) ≡ answer s c
+  -- a call refused for sure, by a number that is its refusal's where it is kept
+  made-sure : (c : Call) (t : Bool) (m : ℕ) → (m ≢ 0 → m ≡ refusal s c) → eqb (only t m) 0 ≡ false → madeOf s (early s (only t m)) ≡ answer s c
+  made-sure c t m h f = made-early s c (only t m) (λ z. refused-answer s c (only t m) (kept-number t m (refusal s c) h z) (refusedBy s _) refl z) f
+
+  -- every call that is decided
+  made-call : (c : Call) → changeOf s c .undecided ≡ false → madeOf s (changeOf s c) ≡ answer s c
   unfolding changeOf
   made-call (screen now i side verdict hasId id) h = made-screen now i side verdict hasId id
-  made-call (clear now) h = made-early s (clear now) _ (λ z. refused-answer s (clear now) _ (stops-early s now _ refl z) (refusedBy s _) refl z) h
-  made-call (allocate now n) h = made-early s (allocate now n) _ (λ z. allocate-refused s now n _ (refusedBy s _) refl z refl) h
-  made-call (exercise now issuer i q) h =
-      made-early s (exercise now issuer i q) _ (λ z. refused-answer s (exercise now issuer i q) _ refl (refusedBy s _) refl z) h
+  made-call (clear now) h = made-sure (clear now) (not (inWindow s now && admits (s .phase) 1)) _ (λ z. stops-early s now _ refl z) h
+  made-call (allocate now n) h = made-sure (allocate now n) (not (admits (s .phase) 2)) _ (λ z. allocate-number s now n _ refl z) h
+  made-call (exercise now issuer i q) h = made-sure (exercise now issuer i q) (not (admits (s .phase) 3 && ltZ now (rofrEnd s))) _ (λ z. refl) h
   made-call (close now caller) h = made-close now caller
   made-call (settle i) h = made-settle i
   made-call (skip now i reason) h = made-skip now i reason
   made-call (finish now) h = made-finish now
   made-call (expire now) h = made-expire now
 
-  pub change-applied : (r : CallRecord) → changeFor s r .whole ≡ false → madeOf s (changeFor s r) ≡ applied s r
+  pub change-applied : (r : CallRecord) → changeFor s r .undecided ≡ false → madeOf s (changeFor s r) ≡ applied s r
   unfolding changeFor applied
   change-applied r = go (leb (r .kind) 8)
     where
-      go : (t : Bool) → cond t (changeOf s (callOf r)) (unchanged s 4) .whole ≡ false
-          → madeOf s (cond t (changeOf s (callOf r)) (unchanged s 4)) ≡ cond t (answer s (callOf r)) (refusedBy s 4)
+      go : (t : Bool) → cond t (changeOf s (callOf r)) (unchanged s (limitsRefusal s then 4)) .undecided ≡ false
+          → madeOf s (cond t (changeOf s (callOf r)) (unchanged s (limitsRefusal s then 4))) ≡ cond t (answer s (callOf r)) (refusedBy s (limitsRefusal s then 4))
       go true h = made-call (callOf r) h
-      go false h = rw (kept s 4 (few []))
+      go false h = rw (kept s (limitsRefusal s then 4) (few []))
 
 -- ---- the places are among those of the arrays
 abbrev Placed : Change → Type 0
@@ -163,6 +181,6 @@ module _ (s : Session) where
   unfolding changeFor
   change-placed r = go (leb (r .kind) 8)
     where
-      go : (t : Bool) → Placed (cond t (changeOf s (callOf r)) (unchanged s 4))
+      go : (t : Bool) → Placed (cond t (changeOf s (callOf r)) (unchanged s (limitsRefusal s then 4)))
       go true = placed-call (callOf r)
       go false = (omega arith, omega arith)

@@ -12,3 +12,4 @@ pub mod Purchases
 pub mod Prints
 pub mod Records
 pub mod Changing
+pub mod Orders

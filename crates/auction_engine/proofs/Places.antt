@@ -5,7 +5,7 @@ use mathlib.Core.List.{List}
 use Prim.Native.Nat.{ℕ, _<_}
 use native.Mathlib.Omega.{arith}
 use lib.IntN.{ℤ}
-use borrow.Author.Tests.{ltb-true}
+use borrow.Author.Tests.{ltb-true, lt-ltb}
 use Rattle.laws.proofs.Checks.{check-zero}
 use Rattle.credit_math.specs.Limits.{maxOrders}
 use Rattle.book.specs.Limits.{maxFills}
@@ -14,7 +14,12 @@ use Rattle.auction_engine.specs.Call.{screen, settle, skip}
 use Rattle.auction_engine.specs.Screening.{screenRefusal}
 use Rattle.auction_engine.specs.Settlement.{settleRefusal, skipRefusal}
 use Rattle.auction_engine.specs.Engine.{refusal, ownRefusal}
+use Rattle.auction_engine.specs.Changes.{placeOf}
 use Rattle.auction_engine.proofs.Checks.{accepted}
+
+-- a place of the array is itself
+pub place-is : (places i : ℕ) → i < places → placeOf places i ≡ i
+place-is places i h = rw (lt-ltb i places h)
 
 pub screen-place : (s : Session) (now : ℤ) (i side verdict : ℕ) (hasId : Bool) (id : List ℕ) → refusal s (screen now i side verdict hasId id) ≡ 0 → i < maxOrders
 unfolding ownRefusal screenRefusal

@@ -1,15 +1,17 @@
 -- The call that a record says, by the record's kind, and what the engine answers to it. Assumes nothing.
-use mathlib.Core.Path.{_≡_, refl, _∙_, ap}
+use mathlib.Core.Path.{_≡_, refl, sym, _∙_, ap}
 use mathlib.Core.Logic.{_≢_}
 use mathlib.Core.Bool.{Bool, true, false, cond}
 use Prim.Native.Nat.{ℕ, _<_}
 use lib.Dec.{eqb, leb}
 use borrow.Author.Tests.{ne-eqb, lt-leb}
+use Rattle.laws.specs.Checks.{unless, _then_}
+use Rattle.laws.proofs.Checks.{then-pass, then-nothing}
 use Rattle.auction_engine.specs.declared.Session.{Session}
 use Rattle.auction_engine.specs.declared.Answer.{Answer}
 use Rattle.auction_engine.specs.declared.CallRecord.{CallRecord}
-use Rattle.auction_engine.specs.Call.{Call, screen, clear, allocate, exercise, close, settle, skip, finish, expire, argumentsRefusal}
-use Rattle.auction_engine.specs.Engine.{refusedBy, answer, callOf, applied}
+use Rattle.auction_engine.specs.Call.{Call, screen, clear, allocate, exercise, close, settle, skip, finish, expire, limitsRefusal, argumentsRefusal}
+use Rattle.auction_engine.specs.Engine.{refusedBy, answer, callOf, recordArguments, applied}
 
 module _ (r : CallRecord) where
   pub call-screen : r .kind ≡ 0 → callOf r ≡ screen (r .now) (r .order) (r .side) (r .verdict) (r .«has_id») (r .id)
@@ -69,13 +71,22 @@ module _ (r : CallRecord) where
       go false false false false false true = refl
       go false false false false false false = refl
 
+  -- the arguments of a record, by its kind
+  pub arguments-of : leb (r .kind) 8 ≡ true → (n : ℕ) → n ≡ argumentsRefusal (callOf r) → n ≡ recordArguments r
+  unfolding recordArguments unless
+  arguments-of t n e = rw t (e ∙ then-pass 0 (argumentsRefusal (callOf r)) refl)
+
+  pub arguments-none : r .kind ≢ 0 → r .kind ≢ 6 → unless (leb (r .kind) 8) 4 ≡ recordArguments r
+  unfolding recordArguments
+  arguments-none a b = rw (← no-arguments a b) (sym (then-nothing (unless (leb (r .kind) 8) 4)))
+
   module _ (s : Session) where
     -- a kind up to 8: what its call answers
     pub applied-as : (k : ℕ) → r .kind ≡ k → leb k 8 ≡ true → (c : Call) → callOf r ≡ c → (a : Answer) → a ≡ answer s c → a ≡ applied s r
     unfolding applied
     applied-as k e t c f a g = rw (ap (λ n. leb n 8) e ∙ t, f) g
 
-    -- a kind above 8: refused with 4
-    pub applied-unknown : 8 < r .kind → (a : Answer) → a ≡ refusedBy s 4 → a ≡ applied s r
+    -- a kind above 8: refused with 9, then 4
+    pub applied-unknown : 8 < r .kind → (a : Answer) → a ≡ refusedBy s (limitsRefusal s then 4) → a ≡ applied s r
     unfolding applied
     applied-unknown h a f = rw (lt-leb (r .kind) 8 h) f

@@ -1,10 +1,11 @@
 -- The loop of an allocate: with m turns left, what is left decides. Assumes nothing.
 use mathlib.Core.Path.{_≡_, refl, sym, _∙_, ap, subst}
-use mathlib.Core.Bool.{Bool, true, false, not, _&&_}
+use mathlib.Core.Logic.{_≢_}
+use mathlib.Core.Bool.{Bool, true, false, cond, not}
 use mathlib.Core.List.{List, [], _∷_, _++_, append-nil, append-assoc}
 use Prim.Native.Nat.{ℕ, suc, _+_, _-_, _<_, _≤_, min}
 use native.Mathlib.Omega.{arith}
-use borrow.Author.Tests.{lt-ltb, ltb-true, ltb-false}
+use borrow.Author.Tests.{lt-ltb, ltb-true}
 use lib.Dec.{ltb}
 use lib.ListN.{length, set, length-append}
 use Rattle.laws.specs.Checks.{unless}
@@ -17,11 +18,28 @@ use Rattle.events.specs.declared.Event.the-variants.{FillAllocated}
 use Rattle.events.specs.Events.{maxEvents, lineOf, packed, pushed}
 use Rattle.events.proofs.Packed.{push-packed}
 use Rattle.auction_engine.specs.declared.Session.{Session}
+use Rattle.auction_engine.specs.declared.Answer.{Answer}
 use Rattle.auction_engine.specs.declared.matching.Pair.{Pair}
 use Rattle.auction_engine.specs.Session.{left}
 use Rattle.auction_engine.specs.Matching.{buyAt, sellAt, dueAt, due, pair, one, crank, overfull, fillEvents}
-use Rattle.auction_engine.specs.Cranks.{nextPair, Turned}
+use Rattle.auction_engine.specs.Engine.{refusedBy}
+use Rattle.auction_engine.specs.Cranks.{nextPair, turned}
 use Rattle.auction_engine.proofs.Cranks.{dueEvent, one-orders, idle-crank, idle-full, idle-events, due-one, due-count, due-events, due-full, crank-more, free-full}
+
+-- what the answer of n turns tells
+pub record Turned (s : Session) (n : ℕ) (r : Answer) : Type 0 where
+  pub refusal : r .refusal ≡ unless (not (overfull n s)) 18
+  pub refused : r .refusal ≢ 0 → r ≡ refusedBy s (r .refusal)
+  pub session : r .refusal ≡ 0 → r .session ≡ crank n s
+  pub events : r .refusal ≡ 0 → r .events ≡ packed (fillEvents n s)
+
+pub turned-tells : (s : Session) (n : ℕ) (r : Answer) → r ≡ turned s n → Turned s n r
+unfolding unless
+turned-tells s n r e = subst (Turned s n) (sym e) (go (overfull n s) refl)
+  where
+    go : (x : Bool) → overfull n s ≡ x → Turned s n (cond x (refusedBy s 18) (record { refusal = 0; session = crank n s; events = packed (fillEvents n s) }))
+    go true t = record { refusal = rw t refl; refused = λ _. refl; session = λ z. absurd (omega (arith, z)); events = λ z. absurd (omega (arith, z)) }
+    go false t = record { refusal = rw t refl; refused = λ z. absurd (z refl); session = λ _. refl; events = λ _. refl }
 
 -- n turns of s come to m turns of t, after the events v
 pub record Going (s : Session) (n m : ℕ) (t : Session) (v : Events) : Type 0 where
@@ -91,40 +109,25 @@ pub record Free (t : Session) (v : Events) (p : Pair) : Type 0 where
   pub sell : p .sell < maxOrders
 
 pub going-free : (s : Session) (n m : ℕ) (t : Session) (v : Events) (p : Pair) → Going s n m t v → p ≡ nextPair (t .orders) (t .«order_count»)
-    → (p .due && ltb (t .«fill_count») maxFills) ≡ true → Free t v p
+    → p .due ≡ true → t .«fill_count» < maxFills → Free t v p
 unfolding packed due
-going-free s n m t v p g e f =
-    let w = both (p .due) (ltb (t .«fill_count») maxFills) f in
-    let h : t .«fill_count» < maxFills = ltb-true (t .«fill_count») maxFills (w .1) in
-    let d = both (ltb (buyAt t) (t .«order_count»)) (ltb (sellAt t) (t .«order_count»)) (sym (found-due t p e) ∙ w .0) in
+going-free s n m t v p g e f h =
+    let d = both (ltb (buyAt t) (t .«order_count»)) (ltb (sellAt t) (t .«order_count»)) (sym (found-due t p e) ∙ f) in
     record {
-      due = w .0;
+      due = f;
       fill = h;
       event = rw (g .events) (omega (arith, g .counted, h));
       buy = rw (found-buy t p e) (omega (arith, ltb-true (buyAt t) (t .«order_count») (d .0), g .orders));
       sell = rw (found-sell t p e) (omega (arith, ltb-true (sellAt t) (t .«order_count») (d .1), g .orders));
     }
 
--- the number that turns come to, by whether one fill was too many
-abbrev full-number : Bool → ℕ
-full-number x = unless (not x) 18
+-- the answer of n turns, by whether one fill was too many
+module _ (s : Session) (n : ℕ) where
+  turned-full : overfull n s ≡ true → refusedBy s 18 ≡ turned s n
+  turned-full t = rw t
 
--- no fill is due, or no place is free
-module _ (s : Session) (n m : ℕ) (t : Session) (v : Events) (g : Going s n (suc m) t v) where
-  stopped : (x : Bool) → due t ≡ x → (x && ltb (t .«fill_count») maxFills) ≡ false → Turned s n (record { refusal = unless (not x) 18; session = t; events = v })
-  unfolding unless
-  stopped false d f =
-      record {
-        refusal = ap full-number (sym (g .full ∙ idle-full t d (suc m)));
-        session = λ _. sym (g .session ∙ idle-crank t d (suc m));
-        events = λ _. g .events ∙ ap packed (sym (g .lines ∙ ap (λ (l : List Event). g .made ++ l) (idle-events t d (suc m)) ∙ append-nil (g .made)));
-      }
-  stopped true d f =
-      record {
-        refusal = ap full-number (sym (g .full ∙ due-full t d m (ltb-false (t .«fill_count») maxFills f)));
-        session = λ c. absurd (omega (arith, c));
-        events = λ c. absurd (omega (arith, c));
-      }
+  turned-made : overfull n s ≡ false → (t : Session) (v : Events) → t ≡ crank n s → v ≡ packed (fillEvents n s) → _≡_ {A = Answer} (record { refusal = 0; session = t; events = v }) (turned s n)
+  turned-made f t v e g = rw (f, e, g)
 
 -- one event more, where there is room
 room-pushed : (v : Events) (e : Event) → v .count < maxEvents → _≡_ {A = Events} (record { lines = set (v .lines) (v .count) (lineOf e); count = v .count + 1 }) (pushed v e)
@@ -136,8 +139,18 @@ module _ (s : Session) (n i : ℕ) (t : Session) (v : Events) (p : Pair) (h : i 
   one-left : Going s n (suc (n - (i + 1))) t v
   one-left = let m : n - i ≡ suc (n - (i + 1)) = omega arith in subst (λ (x : ℕ). Going s n x t v) m g
 
-  pub going-stops : (p .due && ltb (t .«fill_count») maxFills) ≡ false → Turned s n (record { refusal = unless (not (p .due)) 18; session = t; events = v })
-  going-stops f = stopped s n (n - (i + 1)) t v one-left (p .due) (sym (found-due t p e)) f
+  -- no fill is due
+  pub going-idle : p .due ≡ false → _≡_ {A = Answer} (record { refusal = 0; session = t; events = v }) (turned s n)
+  going-idle f =
+      let m = n - (i + 1) in
+      let g : Going s n (suc m) t v = one-left in
+      let d : due t ≡ false = sym (found-due t p e) ∙ f in
+      turned-made s n (g .full ∙ idle-full t d (suc m)) t v (sym (g .session ∙ idle-crank t d (suc m)))
+      (g .events ∙ ap packed (sym (g .lines ∙ ap (λ (l : List Event). g .made ++ l) (idle-events t d (suc m)) ∙ append-nil (g .made))))
+
+  -- one is due, and no place is free
+  pub going-full : p .due ≡ true → maxFills ≤ t .«fill_count» → refusedBy s 18 ≡ turned s n
+  going-full f h = turned-full s n (one-left .full ∙ due-full t (sym (found-due t p e) ∙ f) (n - (i + 1)) h)
 
   -- the fill and its event are written in place
   pub going-more : Free t v p
@@ -150,13 +163,9 @@ module _ (s : Session) (n i : ℕ) (t : Session) (v : Events) (p : Pair) (h : i 
       (found-buy t p e, found-sell t p e, ← due-one t d)
       (subst (Going s n (n - (i + 1)) (one t)) (sym (room-pushed v (dueEvent t) (f .event))) (going-fills s n (n - (i + 1)) t v one-left d (f .fill)))
 
-pub going-end : (s : Session) (n i : ℕ) (t : Session) (v : Events) → n ≤ i → Going s n (n - i) t v → Turned s n (record { refusal = 0; session = t; events = v })
-unfolding unless crank overfull fillEvents
+pub going-end : (s : Session) (n i : ℕ) (t : Session) (v : Events) → n ≤ i → Going s n (n - i) t v → _≡_ {A = Answer} (record { refusal = 0; session = t; events = v }) (turned s n)
+unfolding crank overfull fillEvents
 going-end s n i t v h g =
     let m : n - i ≡ 0 = omega arith in
     let z : Going s n 0 t v = subst (λ (x : ℕ). Going s n x t v) m g in
-    record {
-      refusal = ap full-number (sym (z .full));
-      session = λ _. sym (z .session);
-      events = λ _. z .events ∙ ap packed (sym (z .lines ∙ append-nil (z .made)));
-    }
+    turned-made s n (z .full) t v (sym (z .session)) (z .events ∙ ap packed (sym (z .lines ∙ append-nil (z .made))))

@@ -28,26 +28,42 @@ pub data Call : Type 0 where
   finish : (now : ℤ) → Call
   expire : (now : ℤ) → Call
 
--- a call's kind, by number
-abbrev pub kindOf : Call → ℕ
-kindOf (screen now i side verdict hasId id) = 0
-kindOf (clear now) = 1
-kindOf (allocate now n) = 2
-kindOf (exercise now issuer i q) = 3
-kindOf (close now caller) = 4
-kindOf (settle i) = 5
-kindOf (skip now i reason) = 6
-kindOf (finish now) = 7
-kindOf (expire now) = 8
+-- the kinds of calls, by number
+abbrev pub screenKind : ℕ
+screenKind = 0
+
+abbrev pub clearKind : ℕ
+clearKind = 1
+
+abbrev pub allocateKind : ℕ
+allocateKind = 2
+
+abbrev pub exerciseKind : ℕ
+exerciseKind = 3
+
+abbrev pub closeKind : ℕ
+closeKind = 4
+
+abbrev pub settleKind : ℕ
+settleKind = 5
+
+abbrev pub skipKind : ℕ
+skipKind = 6
+
+abbrev pub finishKind : ℕ
+finishKind = 7
+
+abbrev pub expireKind : ℕ
+expireKind = 8
 
 -- 'Screen and clear need 0, 1 or 7; allocate 2; exercise and close 3; settle, skip and finish 4; expire any but 5 and 6'
 unfoldable pub admits : (phase kind : ℕ) → Bool
 admits phase kind =
-    cond (leb kind 1) (eqb phase 0 || eqb phase 1 || eqb phase 7)
-    (cond (eqb kind 2) (eqb phase 2)
-    (cond (leb kind 4) (eqb phase 3)
-    (cond (leb kind 7) (eqb phase 4)
-    (eqb kind 8 && not (eqb phase 5 || eqb phase 6)))))
+    cond (leb kind clearKind) (eqb phase 0 || eqb phase 1 || eqb phase 7)
+    (cond (eqb kind allocateKind) (eqb phase 2)
+    (cond (leb kind closeKind) (eqb phase 3)
+    (cond (leb kind finishKind) (eqb phase 4)
+    (eqb kind expireKind && not (eqb phase 5 || eqb phase 6)))))
 
 -- 'Library call, any' | 9 over 16 orders or 24 fills, band above 10,000, forced with a reserve, reveal_end + window outside 64 bits
 unfoldable pub limitsRefusal : Session → ℕ

@@ -1,32 +1,41 @@
 -- What a call writes that makes no fill and gives no lot: some numbers, one order and one fill. proofs/ shows that its change, written, is its
 -- answer in Engine.antt.
-use mathlib.Core.Bool.{Bool, false, cond}
+use mathlib.Core.Bool.{Bool, false, cond, not, _&&_}
 use mathlib.Core.List.{[]}
 use Prim.Native.Nat.{ℕ}
-use lib.Dec.{eqb, leb}
+use lib.Dec.{ltb, leb, eqb}
 use lib.ListN.{set}
+use lib.Signed.{ltZ}
+use Rattle.laws.specs.Sums.{only}
 use Rattle.laws.specs.Checks.{_then_}
+use Rattle.book.specs.Book.{listed}
 use Rattle.book.specs.declared.Order.{Order}
 use Rattle.book.specs.declared.Fill.{Fill}
+use Rattle.book.specs.declared.Row.{Row}
 use Rattle.events.specs.Events.{few, inFew, packed}
 use Rattle.events.specs.declared.Few.{Few}
 use Rattle.auction_engine.specs.declared.Session.{Session}
 use Rattle.auction_engine.specs.declared.Answer.{Answer}
 use Rattle.auction_engine.specs.declared.CallRecord.{CallRecord}
 use Rattle.auction_engine.specs.declared.changes.Change.{Change}
-use Rattle.auction_engine.specs.Session.{orderAt, fillAt}
-use Rattle.auction_engine.specs.Call.{Call, screen, clear, allocate, exercise, close, settle, skip, finish, expire, limitsRefusal, fieldsRefusal}
+use Rattle.auction_engine.specs.Session.{orderAt, fillAt, rofrEnd, rewritten}
+use Rattle.auction_engine.specs.Call.{Call, screen, clear, allocate, exercise, close, settle, skip, finish, expire, clearKind, allocateKind, exerciseKind, expireKind, admits, limitsRefusal, fieldsRefusal, inWindow}
 use Rattle.auction_engine.specs.Screening.{exclusionOf, screenedAs}
 use Rattle.auction_engine.specs.Clearing.{clearChecks}
 use Rattle.auction_engine.specs.Matching.{allocateChecks}
 use Rattle.auction_engine.specs.Settlement.{asSettled}
+use Rattle.auction_engine.specs.Opening.{orderRefusal, withOrder}
 use Rattle.auction_engine.specs.Engine.{refusal, effect, events, callOf}
 
+-- a place of an array with so many, or the first
+abbrev pub placeOf : (places i : ℕ) → ℕ
+placeOf places i = cond (ltb i places) i 0
+
 -- the numbers of a session t, order o at place i, fill f at place j, and what is said
-abbrev pub writing : Session → (whole : Bool) (i : ℕ) → Order → (j : ℕ) → Fill → (refusal : ℕ) → Few → Change
-writing t whole i o j f refusal es =
+abbrev pub writing : Session → (undecided : Bool) (i : ℕ) → Order → (j : ℕ) → Fill → (refusal : ℕ) → Few → Change
+writing t undecided i o j f refusal es =
     record {
-      whole = whole;
+      undecided = undecided;
       refusal = refusal;
       phase = t .phase;
       «fills_settled» = t .«fills_settled»;
@@ -43,11 +52,11 @@ writing t whole i o j f refusal es =
 abbrev pub standing : Session → (refusal : ℕ) → Few → Change
 standing s refusal es = writing s false 0 (orderAt s 0) 0 (fillAt s 0) refusal es
 
--- a refused call changes nothing
+-- nothing is changed, with that refusal
 abbrev pub unchanged : Session → (refusal : ℕ) → Change
 unchanged s refusal = standing s refusal (few [])
 
--- a call that changes more: what refuses it before it is worked out; where nothing does, it is left to the whole session
+-- a call that changes more: refused by that number, or undecided where it is 0
 abbrev pub early : Session → (refusal : ℕ) → Change
 early s refusal = writing s (eqb refusal 0) 0 (orderAt s 0) 0 (fillAt s 0) refusal (few [])
 
@@ -59,13 +68,13 @@ changeAt s c i o j f = cond (eqb (refusal s c) 0) (writing (effect s c) false i 
 abbrev pub changeOfPhase : Session → Call → Change
 changeOfPhase s c = changeAt s c 0 (orderAt s 0) 0 (fillAt s 0)
 
--- the change of a call
+-- the change of a call; a clear, an allocate and an exercise are undecided but where their phase or their window refuses them for sure
 unfoldable pub changeOf : Session → Call → Change
 changeOf s (screen now i side verdict hasId id) =
     changeAt s (screen now i side verdict hasId id) i (screenedAs (orderAt s i) (exclusionOf s i verdict hasId id) hasId id) 0 (fillAt s 0)
-changeOf s (clear now) = early s (limitsRefusal s then fieldsRefusal s then clearChecks s now)
-changeOf s (allocate now n) = early s (allocateChecks s)
-changeOf s (exercise now issuer i q) = early s (refusal s (exercise now issuer i q))
+changeOf s (clear now) = early s (only (not (inWindow s now && admits (s .phase) clearKind)) (limitsRefusal s then fieldsRefusal s then clearChecks s now))
+changeOf s (allocate now n) = early s (only (not (admits (s .phase) allocateKind)) (allocateChecks s))
+changeOf s (exercise now issuer i q) = early s (only (not (admits (s .phase) exerciseKind && ltZ now (rofrEnd s))) (refusal s (exercise now issuer i q)))
 changeOf s (close now caller) = changeOfPhase s (close now caller)
 changeOf s (settle i) = changeAt s (settle i) 0 (orderAt s 0) i (asSettled (fillAt s i))
 changeOf s (skip now i reason) = changeAt s (skip now i reason) 0 (orderAt s 0) i (asSettled (fillAt s i))
@@ -74,25 +83,24 @@ changeOf s (expire now) = changeOfPhase s (expire now)
 
 -- the same of a call record: a kind above 8 is an argument outside its values
 unfoldable pub changeFor : Session → CallRecord → Change
-changeFor s r = cond (leb (r .kind) 8) (changeOf s (callOf r)) (unchanged s 4)
+changeFor s r = cond (leb (r .kind) expireKind) (changeOf s (callOf r)) (unchanged s (limitsRefusal s then 4))
+
+-- the change of an `OR` record: one order more
+unfoldable pub orderChange : Session → Row → Change
+orderChange s row =
+    cond (eqb (orderRefusal s row) 0) (writing (withOrder s row) false (s .«order_count») (listed row) 0 (fillAt s 0) 0 (few []))
+    (unchanged s (orderRefusal s row))
+
+-- what an order changes, or else a call record
+unfoldable pub recordChange : Session → (isOrder : Bool) → Row → CallRecord → Change
+recordChange s isOrder row r = cond isOrder (orderChange s row) (changeFor s r)
 
 -- a session with a change written
 abbrev pub changed : Session → Change → Session
 changed s c =
-    record {
-      params = s .params;
-      given = s .given;
-      cleared = s .cleared;
-      phase = c .phase;
-      «rofr_qty» = s .«rofr_qty»;
-      «fills_settled» = c .«fills_settled»;
-      «skipped_fills» = c .«skipped_fills»;
-      orders = set (s .orders) (c .«order_at») (c .order);
-      «order_count» = c .«order_count»;
-      fills = set (s .fills) (c .«fill_at») (c .fill);
-      «fill_count» = s .«fill_count»;
-    }
+    rewritten s (s .cleared) (c .phase) (s .«rofr_qty») (c .«fills_settled») (c .«skipped_fills»)
+    (set (s .orders) (c .«order_at») (c .order)) (c .«order_count») (set (s .fills) (c .«fill_at») (c .fill)) (s .«fill_count»)
 
--- what a change that is not left to the whole session is answered as
+-- what a decided change is answered as
 abbrev pub madeOf : Session → Change → Answer
 madeOf s c = record { refusal = c .refusal; session = changed s c; events = packed (inFew (c .events)) }

@@ -7,7 +7,7 @@ use lib.IntN.{ℤ}
 use lib.ListN.{getD, set}
 use Rattle.laws.specs.Search.{every}
 use Rattle.laws.specs.Checks.{unless, _then_}
-use Rattle.book.specs.Book.{orderIn}
+use Rattle.book.specs.Book.{orderIn, reorder}
 use Rattle.book.specs.Clear.{computeClear, floorOf}
 use Rattle.book.specs.declared.Order.{Order}
 use Rattle.book.specs.declared.clear.Outcome.{Outcome}
@@ -15,7 +15,7 @@ use Rattle.events.specs.declared.Event.{Event}
 use Rattle.events.specs.declared.Event.the-variants as event
 use Rattle.auction_engine.specs.declared.Session.{Session}
 use Rattle.auction_engine.specs.Session.{orderAt, remake, atPhase, allocating, failed}
-use Rattle.auction_engine.specs.Call.{admits, inWindow}
+use Rattle.auction_engine.specs.Call.{clearKind, admits, inWindow}
 
 -- what `compute_clear` finds in the session
 abbrev pub outcome : Session → Outcome
@@ -25,7 +25,7 @@ outcome s = computeClear (s .params) (s .given) (s .orders) (s .«order_count»)
 abbrev pub clearChecks : Session → (now : ℤ) → ℕ
 clearChecks s now =
     unless (inWindow s now) 11
-    then unless (admits (s .phase) 1) 10
+    then unless (admits (s .phase) clearKind) 10
     then unless (every (λ i. not (orderAt s i .revealed) || orderAt s i .screened) (s .«order_count»)) 16
 
 -- then 17 volume above 64 bits, which the outcome has
@@ -34,20 +34,7 @@ clearRefusal s now = clearChecks s now then outcome s .refusal
 
 -- an order with its lot, none of it paired yet
 abbrev pub withLot : Order → ℕ → Order
-withLot o a =
-    record {
-      owner = o .owner;
-      side = o .side;
-      escrowed = o .escrowed;
-      revealed = o .revealed;
-      limit = o .limit;
-      qty = o .qty;
-      alloc = a;
-      «alloc_left» = a;
-      screened = o .screened;
-      eligible = o .eligible;
-      «investor_id» = o .«investor_id»;
-    }
+withLot o a = reorder o a a (o .screened) (o .eligible) (o .«investor_id»)
 
 -- the first n orders with their lots
 unfoldable pub withLots : List Order → List ℕ → ℕ → List Order

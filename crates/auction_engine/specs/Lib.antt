@@ -8,5 +8,5 @@ pub mod Cranks
 pub mod Rofr
 pub mod Settlement
 pub mod Engine
-pub mod Changes
 pub mod Opening
+pub mod Changes

@@ -8,38 +8,29 @@ use Rattle.laws.specs.Search.{first, every}
 use Rattle.laws.specs.Lists.{same}
 use Rattle.laws.specs.Checks.{unless, _then_}
 use Rattle.book.specs.Limits.{maxFills}
-use Rattle.book.specs.Book.{buySide, sellSide, noWallet}
+use Rattle.book.specs.Book.{buySide, sellSide, noWallet, orderIn, reorder}
 use Rattle.book.specs.declared.Order.{Order}
+use Rattle.book.specs.declared.Fill.{Fill}
 use Rattle.events.specs.declared.Event.{Event}
 use Rattle.events.specs.declared.Event.the-variants.{FillAllocated, PhaseChanged}
 use Rattle.auction_engine.specs.declared.Session.{Session}
 use Rattle.auction_engine.specs.Session.{orderAt, left, remake, atPhase, settling, issuerRofr}
-use Rattle.auction_engine.specs.Call.{admits, limitsRefusal, fieldsRefusal}
+use Rattle.auction_engine.specs.Call.{allocateKind, admits, limitsRefusal, fieldsRefusal}
 
 -- the order with q less of its lot left
 abbrev pub lessLeft : Order → ℕ → Order
-lessLeft o q =
-    record {
-      owner = o .owner;
-      side = o .side;
-      escrowed = o .escrowed;
-      revealed = o .revealed;
-      limit = o .limit;
-      qty = o .qty;
-      alloc = o .alloc;
-      «alloc_left» = o .«alloc_left» - q;
-      screened = o .screened;
-      eligible = o .eligible;
-      «investor_id» = o .«investor_id»;
-    }
+lessLeft o q = reorder o (o .alloc) (o .«alloc_left» - q) (o .screened) (o .eligible) (o .«investor_id»)
 
 -- an order of that side with something left
 abbrev pub dueOn : (side : ℕ) → Order → Bool
 dueOn side o = eqb (o .side) side && ltb 0 (o .«alloc_left»)
 
--- the first such order, or the number of orders
+-- the first such order among the first n, or n
+abbrev pub firstDue : List Order → (n side : ℕ) → ℕ
+firstDue os n side = first (λ i. dueOn side (orderIn os i)) n
+
 unfoldable pub dueAt : Session → (side : ℕ) → ℕ
-dueAt s side = first (λ i. dueOn side (orderAt s i)) (s .«order_count»)
+dueAt s side = firstDue (s .orders) (s .«order_count») side
 
 abbrev pub buyAt : Session → ℕ
 buyAt s = dueAt s buySide
@@ -55,12 +46,16 @@ due s = ltb (buyAt s) (s .«order_count») && ltb (sellAt s) (s .«order_count»
 abbrev pub dueQty : Session → ℕ
 dueQty s = min (left s (buyAt s)) (left s (sellAt s))
 
+-- a fill of q as it is first written
+abbrev pub fillOf : (buy sell : Order) → ℕ → Fill
+fillOf buy sell q = record { buyer = buy .owner; seller = sell .owner; qty = q; rofr = false; settled = false }
+
 -- order b buys q of order a
 unfoldable pub pair : Session → (b a q : ℕ) → Session
 pair s b a q =
     remake s (s .cleared) (s .phase) (s .«rofr_qty») (s .«fills_settled») (s .«skipped_fills»)
     (set (set (s .orders) b (lessLeft (orderAt s b) q)) a (lessLeft (orderAt s a) q))
-    (set (s .fills) (s .«fill_count») (record { buyer = orderAt s b .owner; seller = orderAt s a .owner; qty = q; rofr = false; settled = false }))
+    (set (s .fills) (s .«fill_count») (fillOf (orderAt s b) (orderAt s a) q))
     (s .«fill_count» + 1)
 
 -- one fill, where one is due
@@ -79,11 +74,11 @@ overfull (suc n) s = (due s && leb maxFills (s .«fill_count»)) || overfull n (
 
 -- what any call checks, and the phase
 abbrev pub allocateChecks : Session → ℕ
-allocateChecks s = (limitsRefusal s then fieldsRefusal s) then unless (admits (s .phase) 2) 10
+allocateChecks s = (limitsRefusal s then fieldsRefusal s) then unless (admits (s .phase) allocateKind) 10
 
 -- Allocate | 10; 18 a fill due with 24 held, the call's own counted
 unfoldable pub allocateRefusal : Session → (n : ℕ) → ℕ
-allocateRefusal s n = unless (admits (s .phase) 2) 10 then unless (not (overfull n s)) 18
+allocateRefusal s n = unless (admits (s .phase) allocateKind) 10 then unless (not (overfull n s)) 18
 
 -- every lot is paired
 unfoldable pub done : Session → Bool

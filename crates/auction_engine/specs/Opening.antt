@@ -18,7 +18,7 @@ use Rattle.book.specs.declared.Given.{Given}
 use Rattle.book.specs.declared.Row.{Row}
 use Rattle.disclosure.specs.Disclosure.{maxBand}
 use Rattle.auction_engine.specs.declared.Session.{Session}
-use Rattle.auction_engine.specs.Session.{orderAt, fresh}
+use Rattle.auction_engine.specs.Session.{orderAt, rewritten, fresh}
 
 -- `SH` | 4: 'reserve 8 (0 if forced)', policy, 'band_bps 8 (at most 10,000)'; then
 -- 5 unless reveal_end < settle_deadline, window ≥ 0, window 0 without authority, reveal_end + window fits and is below the deadline, min_reveals ≥ 2;
@@ -48,19 +48,8 @@ orderRefusal s row =
 -- one order more
 unfoldable pub withOrder : Session → Row → Session
 withOrder s row =
-    record {
-      params = s .params;
-      given = s .given;
-      cleared = s .cleared;
-      phase = s .phase;
-      «rofr_qty» = s .«rofr_qty»;
-      «fills_settled» = s .«fills_settled»;
-      «skipped_fills» = s .«skipped_fills»;
-      orders = set (s .orders) (s .«order_count») (listed row);
-      «order_count» = s .«order_count» + 1;
-      fills = s .fills;
-      «fill_count» = s .«fill_count»;
-    }
+    rewritten s (s .cleared) (s .phase) (s .«rofr_qty») (s .«fills_settled») (s .«skipped_fills»)
+    (set (s .orders) (s .«order_count») (listed row)) (s .«order_count» + 1) (s .fills) (s .«fill_count»)
 
 -- s with these orders one after the other
 abbrev pub withRows : Session → List Row → Session

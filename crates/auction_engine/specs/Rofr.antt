@@ -14,12 +14,12 @@ use Rattle.events.specs.declared.Event.{Event}
 use Rattle.events.specs.declared.Event.the-variants.{RofrExercised, RofrClosed, PhaseChanged}
 use Rattle.auction_engine.specs.declared.Session.{Session}
 use Rattle.auction_engine.specs.Session.{fillAt, rofrEnd, remake, atPhase, settling}
-use Rattle.auction_engine.specs.Call.{admits}
+use Rattle.auction_engine.specs.Call.{exerciseKind, closeKind, admits}
 
 -- Exercise | 10; 11 at or after rofr end; 19 not the authority; 20 qty 0; 18 24 held; 21 no fill, or already rofr or settled; 22 qty above the fill
 unfoldable pub exerciseRefusal : Session → (now : ℤ) (issuer : List ℕ) (i q : ℕ) → ℕ
 exerciseRefusal s now issuer i q =
-    unless (admits (s .phase) 3) 10
+    unless (admits (s .phase) exerciseKind) 10
     then unless (ltZ now (rofrEnd s)) 11
     then unless (same issuer (s .params .«rofr_authority»)) 19
     then unless (ltb 0 q) 20
@@ -48,7 +48,7 @@ exerciseEvents s i q = RofrExercised i (s .«fill_count») q (s .cleared .«clea
 -- Close | 10; 19 neither authority nor rofr end reached
 unfoldable pub closeRefusal : Session → (now : ℤ) (caller : List ℕ) → ℕ
 closeRefusal s now caller =
-    unless (admits (s .phase) 4) 10
+    unless (admits (s .phase) closeKind) 10
     then unless (same caller (s .params .«rofr_authority») || leZ (rofrEnd s) now) 19
 
 unfoldable pub closeEffect : Session → Session

@@ -6,19 +6,20 @@ use lib.Dec.{ltb, eqb}
 use lib.IntN.{ℤ}
 use lib.ListN.{set}
 use Rattle.laws.specs.Checks.{unless, _then_}
+use Rattle.book.specs.Book.{reorder}
 use Rattle.book.specs.declared.Order.{Order}
 use Rattle.investors.specs.Exclusion.{investorExclusion}
 use Rattle.events.specs.declared.Event.{Event}
 use Rattle.events.specs.declared.Event.the-variants.{OrderScreened, PhaseChanged}
 use Rattle.auction_engine.specs.declared.Session.{Session}
 use Rattle.auction_engine.specs.Session.{orderAt, remake, clearing}
-use Rattle.auction_engine.specs.Call.{admits, inWindow}
+use Rattle.auction_engine.specs.Call.{screenKind, admits, inWindow}
 
 -- Screen | 11 window; 10 phase; 12 no such order; 13 side; 14 not revealed; 15 screened
 unfoldable pub screenRefusal : Session → (now : ℤ) (i side : ℕ) → ℕ
 screenRefusal s now i side =
     unless (inWindow s now) 11
-    then unless (admits (s .phase) 0) 10
+    then unless (admits (s .phase) screenKind) 10
     then unless (ltb i (s .«order_count»)) 12
     then unless (eqb (orderAt s i .side) side) 13
     then unless (orderAt s i .revealed) 14
@@ -31,20 +32,7 @@ exclusionOf s i verdict hasId id =
 
 -- 'A given id is stored even when the order is excluded'
 abbrev pub screenedAs : Order → (exclusion : ℕ) (hasId : Bool) (id : List ℕ) → Order
-screenedAs o e hasId id =
-    record {
-      owner = o .owner;
-      side = o .side;
-      escrowed = o .escrowed;
-      revealed = o .revealed;
-      limit = o .limit;
-      qty = o .qty;
-      alloc = o .alloc;
-      «alloc_left» = o .«alloc_left»;
-      screened = true;
-      eligible = eqb e 0;
-      «investor_id» = cond hasId id (o .«investor_id»);
-    }
+screenedAs o e hasId id = reorder o (o .alloc) (o .«alloc_left») true (eqb e 0) (cond hasId id (o .«investor_id»))
 
 -- the order is screened, in phase Clearing
 unfoldable pub screenEffect : Session → (i verdict : ℕ) (hasId : Bool) (id : List ℕ) → Session

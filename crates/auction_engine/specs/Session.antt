@@ -15,9 +15,6 @@ use Rattle.auction_engine.specs.declared.Session.{Session}
 use Rattle.auction_engine.specs.declared.Cleared.{Cleared}
 
 -- 'Commit 0, Reveal 1, Allocating 2, IssuerRofr 3, Settling 4, Printed 5, Failed 6, Clearing 7'
-abbrev pub commit : ℕ
-commit = 0
-
 abbrev pub reveal : ℕ
 reveal = 1
 
@@ -53,9 +50,9 @@ left s i = orderAt s i .«alloc_left»
 unfoldable pub rofrEnd : Session → ℤ
 rofrEnd s = s .params .«reveal_end» +ℤ s .params .«rofr_window»
 
--- a session with other values in the fields that calls write
-abbrev pub remake : Session → Cleared → (phase rofrQty fillsSettled skippedFills : ℕ) → List Order → List Fill → (fillCount : ℕ) → Session
-remake s c p rq st sk os fs n =
+-- a session with other values in all fields but those that it was opened with
+abbrev pub rewritten : Session → Cleared → (phase rofrQty fillsSettled skippedFills : ℕ) → List Order → (orderCount : ℕ) → List Fill → (fillCount : ℕ) → Session
+rewritten s c p rq st sk os m fs n =
     record {
       params = s .params;
       given = s .given;
@@ -65,10 +62,14 @@ remake s c p rq st sk os fs n =
       «fills_settled» = st;
       «skipped_fills» = sk;
       orders = os;
-      «order_count» = s .«order_count»;
+      «order_count» = m;
       fills = fs;
       «fill_count» = n;
     }
+
+-- in the fields that calls write
+abbrev pub remake : Session → Cleared → (phase rofrQty fillsSettled skippedFills : ℕ) → List Order → List Fill → (fillCount : ℕ) → Session
+remake s c p rq st sk os fs n = rewritten s c p rq st sk os (s .«order_count») fs n
 
 -- in another phase
 abbrev pub atPhase : Session → ℕ → Session

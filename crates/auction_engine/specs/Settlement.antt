@@ -20,12 +20,12 @@ use Rattle.events.specs.declared.Print.{Print}
 use Rattle.auction_engine.specs.declared.Session.{Session}
 use Rattle.auction_engine.specs.Session as session
 use Rattle.auction_engine.specs.Session.{fillAt, remake, atPhase}
-use Rattle.auction_engine.specs.Call.{admits}
+use Rattle.auction_engine.specs.Call.{settleKind, skipKind, finishKind, expireKind, admits}
 
 -- Settle | 10; 21 no fill; 23 settled
 unfoldable pub settleRefusal : Session → (i : ℕ) → ℕ
 settleRefusal s i =
-    unless (admits (s .phase) 5) 10
+    unless (admits (s .phase) settleKind) 10
     then unless (ltb i (s .«fill_count»)) 21
     then unless (not (fillAt s i .settled)) 23
 
@@ -45,7 +45,7 @@ settleEvents s i = cond (eqb (fillAt s i .qty) 0) [] (FillSettled i (fillAt s i 
 -- Skip | 10; 21; 23; 24 reason 0
 unfoldable pub skipRefusal : Session → (i reason : ℕ) → ℕ
 skipRefusal s i reason =
-    unless (admits (s .phase) 6) 10
+    unless (admits (s .phase) skipKind) 10
     then unless (ltb i (s .«fill_count»)) 21
     then unless (not (fillAt s i .settled)) 23
     then unless (ltb 0 reason) 24
@@ -67,7 +67,7 @@ movedVolume s = sumBelow (λ i. only (not (isSet (s .«skipped_fills») i)) (fil
 -- Finish | 10; 25 a fill unsettled; 17 volume sum unfit
 unfoldable pub finishRefusal : Session → ℕ
 finishRefusal s =
-    unless (admits (s .phase) 7) 10
+    unless (admits (s .phase) finishKind) 10
     then unless (every (λ i. fillAt s i .settled) (s .«fill_count»)) 25
     then unless (ltb (movedVolume s) (2 ^ 64)) 17
 
@@ -95,7 +95,7 @@ finishEvents s = ClearingPrint (printOf s) ∷ PhaseChanged (s .phase) session.p
 -- Expire | 10; 11: 'expire from that deadline'
 unfoldable pub expireRefusal : Session → (now : ℤ) → ℕ
 expireRefusal s now =
-    unless (admits (s .phase) 8) 10
+    unless (admits (s .phase) expireKind) 10
     then unless (leZ (s .params .«settle_deadline») now) 11
 
 unfoldable pub expireEffect : Session → Session

@@ -3,17 +3,19 @@ ghost use mathlib.Core.Path.{_≡_};
 ghost use mathlib.Core.List.{[]};
 ghost use lib.ListN.{set};
 ghost use Rattle.auction_engine.specs.Session.{atPhase};
-ghost use Rattle.auction_engine.specs.Changes.{standing, unchanged, early, changeFor, madeOf};
+ghost use Rattle.auction_engine.specs.Changes.{standing, unchanged, early, recordChange, changed, madeOf};
 use crate::Answer;
 use crate::CallRecord;
 use crate::Session;
+use crate::opening;
 use book::Fill;
 use book::Order;
+use book::Row;
 use events::Few;
 
 pub struct Change {
-    // An allocate, a purchase or a clear that nothing refuses early: it is worked out on the whole session.
-    pub whole: bool,
+    // A clear, an allocate or an exercise that neither its phase nor its window refuses: only `apply` has its answer.
+    pub undecided: bool,
     pub refusal: u8,
     pub phase: u8,
     pub fills_settled: u32,
@@ -28,10 +30,13 @@ pub struct Change {
 }
 
 impl Session {
-    // What the call that a record says changes.
-    pub fn change(self, call: CallRecord) -> Change
-        ensures { λ r. ⌜ r ≡ changeFor self call ⌝ }
+    // What an order that a file lists changes, or else the call that a record says.
+    pub fn change(self, order: bool, row: Row, call: CallRecord) -> Change
+        ensures { λ r. ⌜ r ≡ recordChange self order row call ⌝ }
     {
+        if order {
+            return opening::order_change(self, row);
+        }
         let kind = call.kind;
         let id = call.id;
         let wallet = call.wallet;
@@ -44,28 +49,28 @@ impl Session {
                 call.has_id,
                 id,
             ),
-            1 => self.early(self.clear_refusal(call.now)),
-            2 => self.early(self.allocate_refusal()),
-            3 => self.early(self.exercise_refusal(call.now, wallet, call.fill, call.qty)),
+            1 => self.clear_change(call.now),
+            2 => self.allocate_change(),
+            3 => self.exercise_change(call.now, wallet, call.fill, call.qty),
             4 => self.close_change(call.now, wallet),
             5 => self.settle_change(call.fill),
             6 => self.skip_change(call.now, call.fill, call.reason),
             7 => self.finish_change(call.now),
             8 => self.expire_change(call.now),
-            _ => self.unchanged(book::error::BAD_FIELD),
+            _ => self.unchanged(self.no_such_call()),
         }
     }
 
-    // Refused by that number, or to be worked out on the whole session.
-    fn early(self, refusal: u8) -> Change
+    // Refused by that number, or undecided.
+    pub(crate) fn early(self, refusal: u8) -> Change
         ensures { λ r. ⌜ r ≡ early self refusal ⌝ }
     {
         let mut c = self.unchanged(refusal);
-        c.whole = refusal == 0;
+        c.undecided = refusal == 0;
         c
     }
 
-    // What a refused call changes: nothing.
+    // Nothing is changed; the refusal is the caller's.
     pub fn unchanged(self, refusal: u8) -> Change
         ensures { λ r. ⌜ r ≡ unchanged self refusal ⌝ }
     {
@@ -75,7 +80,7 @@ impl Session {
     }
 
     // What stands at the first order and the first fill, and what is said.
-    pub fn standing(self, events: Few) -> Change
+    pub(crate) fn standing(self, events: Few) -> Change
         ensures { λ r. ⌜ r ≡ standing self 0 events ⌝ }
     {
         let orders = self.orders;
@@ -83,7 +88,7 @@ impl Session {
         let order = orders[0];
         let fill = fills[0];
         Change {
-            whole: false,
+            undecided: false,
             refusal: 0,
             phase: self.phase,
             fills_settled: self.fills_settled,
@@ -98,7 +103,7 @@ impl Session {
     }
 
     // Another phase.
-    pub fn phase_change(self, to: u8, events: Few) -> Change
+    pub(crate) fn phase_change(self, to: u8, events: Few) -> Change
         ensures { λ r. ⌜ r ≡ standing (atPhase self to) 0 events ⌝ }
     {
         let mut c = self.standing(events);
@@ -106,11 +111,23 @@ impl Session {
         c
     }
 
-    // The answer that a change comes to.
-    pub fn made(self, c: Change) -> Answer
+    // The answer that a decided change comes to.
+    pub(crate) fn made(self, c: Change) -> Answer
         ensures { λ r. ⌜ r ≡ madeOf self c ⌝ }
     {
         let said = c.events;
+        let session = self.changed(c);
+        Answer {
+            refusal: c.refusal,
+            session,
+            events: said.all(),
+        }
+    }
+
+    // The session with a change written.
+    pub fn changed(self, c: Change) -> Session
+        ensures { λ r. ⌜ r ≡ changed self c ⌝ }
+    {
         let order = c.order;
         let fill = c.fill;
         let orders = self.orders;
@@ -124,11 +141,7 @@ impl Session {
         session.fills_settled = c.fills_settled;
         session.skipped_fills = c.skipped_fills;
         session.order_count = c.order_count;
-        Answer {
-            refusal: c.refusal,
-            session,
-            events: said.all(),
-        }
+        session
     }
 }
 

@@ -11,9 +11,11 @@ ghost use Rattle.auction_engine.specs.Call as call;
 ghost use Rattle.auction_engine.specs.Call.{limitsRefusal, fieldsRefusal};
 ghost use Rattle.auction_engine.specs.Clearing.{clearChecks, withLot, clearedBy, clearLines};
 ghost use Rattle.auction_engine.specs.Engine.{answer};
+ghost use Rattle.auction_engine.specs.Changes.{changeOf};
 use crate::Answer;
 use crate::Cleared;
 use crate::Session;
+use crate::changes::Change;
 use crate::first_of;
 use crate::unless;
 use book::Order;
@@ -40,8 +42,18 @@ impl Session {
         self.cleared_by(found)
     }
 
+    // Refused for sure by its window or its phase; else undecided.
+    pub(crate) fn clear_change(self, now: i64) -> Change
+        ensures { λ r. ⌜ r ≡ changeOf self (call.clear now) ⌝ }
+    {
+        if crate::both(self.in_window(now), crate::admits(self.phase, crate::CLEAR)) {
+            return self.early(0);
+        }
+        self.early(self.clear_refusal(now))
+    }
+
     // All checks but the last, 17, which the outcome has.
-    pub fn clear_refusal(self, now: i64) -> u8
+    fn clear_refusal(self, now: i64) -> u8
         ensures { λ r. ⌜ r ≡ limitsRefusal self then fieldsRefusal self then clearChecks self now ⌝ }
     {
         let bad = self.checked();

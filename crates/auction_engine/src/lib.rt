@@ -9,8 +9,8 @@ ghost use Rattle.laws.specs.Checks.{unless, _then_};
 ghost use Rattle.credit_math.specs.Limits.{maxOrders};
 ghost use Rattle.book.specs.Book.{orderIn};
 ghost use Rattle.auction_engine.specs.Session.{fresh};
-ghost use Rattle.auction_engine.specs.Call.{admits, limitsRefusal, fieldsRefusal, argumentsRefusal, inWindow};
-ghost use Rattle.auction_engine.specs.Engine.{refusedBy, callOf, applied};
+ghost use Rattle.auction_engine.specs.Call.{admits, limitsRefusal, fieldsRefusal, inWindow};
+ghost use Rattle.auction_engine.specs.Engine.{refusedBy, recordArguments, applied};
 use book::Fill;
 use book::Given;
 use book::Order;
@@ -20,6 +20,7 @@ use events::Events;
 pub mod changes;
 pub mod clearing;
 pub mod matching;
+pub mod opening;
 pub mod rofr;
 pub mod screening;
 pub mod settlement;
@@ -160,7 +161,7 @@ pub struct CallRecord {
 }
 
 impl Session {
-    // The call that a record says. A kind above 8 is refused with 4.
+    // The call that a record says. A kind above 8 is an argument outside its values: 9, then 4.
     pub fn apply(self, call: CallRecord) -> Answer
         ensures { λ r. ⌜ r ≡ applied self call ⌝ }
     {
@@ -184,21 +185,28 @@ impl Session {
             6 => self.skip_fill(call.now, call.fill, call.reason),
             7 => self.finish(call.now),
             8 => self.expire(call.now),
-            _ => Answer::refused(self, book::error::BAD_FIELD),
+            _ => Answer::refused(self, self.no_such_call()),
         }
+    }
+
+    // What refuses a record of a kind above 8.
+    pub(crate) fn no_such_call(self) -> u8
+        ensures { λ r. ⌜ r ≡ limitsRefusal self then 4 ⌝ }
+    {
+        first_of(self.limits_refusal(), book::error::BAD_FIELD)
     }
 }
 
 // 4 where a call's own arguments are outside their values, else 0: what ends a file.
 pub fn arguments_refusal(call: CallRecord) -> u8
-    ensures { λ r. ⌜ r ≡ argumentsRefusal (callOf call) ⌝ }
+    ensures { λ r. ⌜ r ≡ recordArguments call ⌝ }
 {
     let kind = call.kind;
     let id = call.id;
     match kind {
         0 => screening::arguments_refusal(call.side, call.verdict, call.has_id, id),
         6 => unless(call.reason <= 6, book::error::BAD_FIELD),
-        _ => 0,
+        _ => unless(kind <= EXPIRE, book::error::BAD_FIELD),
     }
 }
 
@@ -209,12 +217,12 @@ pub fn admits(phase: u8, kind: u8) -> bool
     match kind {
         0 => before_clear(phase),
         1 => before_clear(phase),
-        2 => phase == ALLOCATING,
-        3 => phase == ISSUER_ROFR,
-        4 => phase == ISSUER_ROFR,
-        5 => phase == SETTLING,
-        6 => phase == SETTLING,
-        7 => phase == SETTLING,
+        2 => in_allocating(phase),
+        3 => in_rofr(phase),
+        4 => in_rofr(phase),
+        5 => in_settling(phase),
+        6 => in_settling(phase),
+        7 => in_settling(phase),
         8 => not_ended(phase),
         _ => false,
     }
@@ -227,6 +235,33 @@ fn before_clear(phase: u8) -> bool
         0 => true,
         1 => true,
         7 => true,
+        _ => false,
+    }
+}
+
+fn in_allocating(phase: u8) -> bool
+    ensures { λ r. ⌜ r ≡ eqb phase 2 ⌝ }
+{
+    match phase {
+        2 => true,
+        _ => false,
+    }
+}
+
+fn in_rofr(phase: u8) -> bool
+    ensures { λ r. ⌜ r ≡ eqb phase 3 ⌝ }
+{
+    match phase {
+        3 => true,
+        _ => false,
+    }
+}
+
+fn in_settling(phase: u8) -> bool
+    ensures { λ r. ⌜ r ≡ eqb phase 4 ⌝ }
+{
+    match phase {
+        4 => true,
         _ => false,
     }
 }

@@ -1,8 +1,9 @@
 // The call `allocate`: buyers and sellers with something left are paired, in book order, at most as often as the call allows.
 ghost use mathlib.Core.Path.{_≡_};
-ghost use mathlib.Core.Bool.{cond};
+ghost use mathlib.Core.Bool.{cond, not};
 ghost use Prim.Native.Nat.{_+_, _<_, _≤_, min};
 ghost use lib.Dec.{ltb, eqb};
+ghost use Rattle.laws.specs.Sums.{only};
 ghost use Rattle.laws.specs.Search.{every};
 ghost use Rattle.credit_math.specs.Limits.{maxOrders};
 ghost use Rattle.book.specs.Limits.{maxFills};
@@ -10,11 +11,13 @@ ghost use Rattle.book.specs.Book.{orderIn};
 ghost use Rattle.events.specs.Events.{lineOf};
 ghost use Rattle.events.specs.declared.Event.the-variants.{FillAllocated};
 ghost use Rattle.auction_engine.specs.Call as call;
-ghost use Rattle.auction_engine.specs.Matching.{allocateChecks, lessLeft, dueOn, phaseAfter};
-ghost use Rattle.auction_engine.specs.Cranks.{nextPair, fillOf, Turned};
+ghost use Rattle.auction_engine.specs.Matching.{allocateChecks, lessLeft, dueOn, fillOf, phaseAfter};
+ghost use Rattle.auction_engine.specs.Cranks.{nextPair, turned};
 ghost use Rattle.auction_engine.specs.Engine.{answer};
+ghost use Rattle.auction_engine.specs.Changes.{early};
 use crate::Answer;
 use crate::Session;
+use crate::changes::Change;
 use book::Fill;
 use book::Order;
 use events::Event;
@@ -32,7 +35,7 @@ impl Session {
         }
         let mut r = self.turned(max_fills);
         if r.refusal != 0 {
-            return Answer::refused(self, r.refusal);
+            return r;
         }
         let orders = r.session.orders;
         if !none_left(orders, r.session.order_count) {
@@ -49,8 +52,18 @@ impl Session {
         r
     }
 
+    // Refused for sure by its phase; else undecided.
+    pub(crate) fn allocate_change(self) -> Change
+        ensures { λ r. ⌜ r ≡ early self (only (not (call.admits (self .phase) 2)) (allocateChecks self)) ⌝ }
+    {
+        if crate::admits(self.phase, crate::ALLOCATE) {
+            return self.early(0);
+        }
+        self.early(self.allocate_refusal())
+    }
+
     // All checks but the last, 18, which the fills have.
-    pub fn allocate_refusal(self) -> u8
+    fn allocate_refusal(self) -> u8
         ensures { λ r. ⌜ r ≡ allocateChecks self ⌝ }
     {
         let bad = self.checked();
@@ -64,7 +77,7 @@ impl Session {
     // At most n fills, each written in place: a session is too large to copy for each. 18 where one more is due and no place free.
     fn turned(self, n: u8) -> Answer
         requires { ⌜ (self .«order_count» ≤ maxOrders) × (self .«fill_count» ≤ maxFills) ⌝ }
-        ensures { λ r. ⌜ Turned self n r ⌝ }
+        ensures { λ r. ⌜ r ≡ turned self n ⌝ }
     {
         let mut session = self;
         let mut events = Events::none();
@@ -72,12 +85,15 @@ impl Session {
         while i < n {
             let next = next_pair(session.orders, session.order_count);
             let at = session.fill_count;
-            if !crate::both(next.due, at < Session::MAX_FILLS) {
+            if !next.due {
                 return Answer {
-                    refusal: crate::unless(!next.due, book::error::BOOK_FULL),
+                    refusal: 0,
                     session,
                     events,
                 };
+            }
+            if Session::MAX_FILLS <= at {
+                return Answer::refused(self, book::error::BOOK_FULL);
             }
             let b = next.buy;
             let a = next.sell;

@@ -48,7 +48,20 @@ impl Session {
         }
     }
 
-    pub fn exercise_refusal(self, now: i64, issuer: [u8; 32], fill: u32, qty: u64) -> u8
+    // Refused for sure by its phase or its window; else undecided.
+    pub(crate) fn exercise_change(self, now: i64, issuer: [u8; 32], fill: u32, qty: u64) -> Change
+        ensures { λ r. ⌜ r ≡ changeOf self (call.exercise now issuer fill qty) ⌝ }
+    {
+        if crate::both(
+            crate::admits(self.phase, crate::EXERCISE),
+            self.before_rofr_end(now),
+        ) {
+            return self.early(0);
+        }
+        self.early(self.exercise_refusal(now, issuer, fill, qty))
+    }
+
+    fn exercise_refusal(self, now: i64, issuer: [u8; 32], fill: u32, qty: u64) -> u8
         ensures { λ r. ⌜ r ≡ refusal self (call.exercise now issuer fill qty) ⌝ }
     {
         let bad = self.checked();
@@ -141,7 +154,7 @@ impl Session {
         self.made(c)
     }
 
-    pub fn close_change(self, now: i64, caller: [u8; 32]) -> Change
+    pub(crate) fn close_change(self, now: i64, caller: [u8; 32]) -> Change
         ensures { λ r. ⌜ r ≡ changeOf self (call.close now caller) ⌝ }
     {
         let refusal = self.close_refusal(now, caller);
@@ -156,7 +169,7 @@ impl Session {
         self.phase_change(crate::SETTLING, Few::two(closed, moved))
     }
 
-    pub fn close_refusal(self, now: i64, caller: [u8; 32]) -> u8
+    fn close_refusal(self, now: i64, caller: [u8; 32]) -> u8
         ensures { λ r. ⌜ r ≡ refusal self (call.close now caller) ⌝ }
     {
         let bad = self.checked();

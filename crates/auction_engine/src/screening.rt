@@ -11,7 +11,7 @@ ghost use Rattle.events.specs.Events.{few};
 ghost use Rattle.auction_engine.specs.Session.{orderAt};
 ghost use Rattle.auction_engine.specs.Screening.{exclusionOf, screenedAs, screenLines};
 ghost use Rattle.auction_engine.specs.Engine.{refusal, answer};
-ghost use Rattle.auction_engine.specs.Changes.{changeOf};
+ghost use Rattle.auction_engine.specs.Changes.{placeOf, changeOf};
 ghost use Rattle.auction_engine.specs.Call as call;
 use crate::Answer;
 use crate::Session;
@@ -39,7 +39,7 @@ impl Session {
         self.made(c)
     }
 
-    pub fn screen_change(
+    pub(crate) fn screen_change(
         self,
         now: i64,
         order: u8,
@@ -64,9 +64,9 @@ impl Session {
         c
     }
 
-    // The order at a place; any, where the array has no such place.
+    // The order at a place; the first, where the array has no such place.
     fn order_at(self, i: usize) -> Order
-        ensures { λ r. ⌜ (i < maxOrders → r ≡ orderAt self i) ⌝ }
+        ensures { λ r. ⌜ r ≡ orderAt self (placeOf maxOrders i) ⌝ }
     {
         let orders = self.orders;
         if i < Session::MAX_ORDERS {

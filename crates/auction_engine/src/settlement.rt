@@ -18,7 +18,7 @@ ghost use Rattle.auction_engine.specs.Session.{orderAt, fillAt};
 ghost use Rattle.auction_engine.specs.Call as call;
 ghost use Rattle.auction_engine.specs.Settlement.{asSettled, movedVolume, printOf};
 ghost use Rattle.auction_engine.specs.Engine.{refusal, answer};
-ghost use Rattle.auction_engine.specs.Changes.{writing, changeOf};
+ghost use Rattle.auction_engine.specs.Changes.{placeOf, writing, changeOf};
 use crate::Answer;
 use crate::Session;
 use crate::changes::Change;
@@ -41,7 +41,7 @@ impl Session {
         self.made(c)
     }
 
-    pub fn settle_change(self, fill: u32) -> Change
+    pub(crate) fn settle_change(self, fill: u32) -> Change
         ensures { λ r. ⌜ r ≡ changeOf self (call.settle fill) ⌝ }
     {
         let at = fill as usize;
@@ -55,9 +55,9 @@ impl Session {
         c
     }
 
-    // The fill at a place; any, where the array has no such place.
+    // The fill at a place; the first, where the array has no such place.
     fn fill_at(self, at: usize) -> Fill
-        ensures { λ r. ⌜ (at < maxFills → r ≡ fillAt self at) ⌝ }
+        ensures { λ r. ⌜ r ≡ fillAt self (placeOf maxFills at) ⌝ }
     {
         let fills = self.fills;
         if at < Session::MAX_FILLS {
@@ -112,7 +112,7 @@ impl Session {
         self.made(c)
     }
 
-    pub fn skip_change(self, now: i64, fill: u32, reason: u8) -> Change
+    pub(crate) fn skip_change(self, now: i64, fill: u32, reason: u8) -> Change
         ensures { λ r. ⌜ r ≡ changeOf self (call.skip now fill reason) ⌝ }
     {
         let at = fill as usize;
@@ -157,7 +157,7 @@ impl Session {
         self.made(c)
     }
 
-    pub fn finish_change(self, now: i64) -> Change
+    pub(crate) fn finish_change(self, now: i64) -> Change
         ensures { λ r. ⌜ r ≡ changeOf self (call.finish now) ⌝ }
     {
         let refusal = self.finish_refusal(now);
@@ -172,7 +172,7 @@ impl Session {
         self.phase_change(crate::PRINTED, Few::two(print, moved))
     }
 
-    pub fn finish_refusal(self, now: i64) -> u8
+    fn finish_refusal(self, now: i64) -> u8
         ensures { λ r. ⌜ r ≡ refusal self (call.finish now) ⌝ }
     {
         let bad = self.checked();
@@ -230,7 +230,7 @@ impl Session {
         self.made(c)
     }
 
-    pub fn expire_change(self, now: i64) -> Change
+    pub(crate) fn expire_change(self, now: i64) -> Change
         ensures { λ r. ⌜ r ≡ changeOf self (call.expire now) ⌝ }
     {
         let refusal = self.expire_refusal(now);
@@ -245,7 +245,7 @@ impl Session {
         self.phase_change(crate::FAILED, Few::two(failed, moved))
     }
 
-    pub fn expire_refusal(self, now: i64) -> u8
+    fn expire_refusal(self, now: i64) -> u8
         ensures { λ r. ⌜ r ≡ refusal self (call.expire now) ⌝ }
     {
         let bad = self.checked();

@@ -14,6 +14,24 @@ before-clear-requires c κs = search needs
 before-clear-requires-2 : tie.Need-before-clear-requires-2
 before-clear-requires-2 c κs = search needs
 
+in-allocating-requires : tie.Need-in-allocating-requires
+in-allocating-requires c κs = search needs
+
+in-rofr-requires : tie.Need-in-rofr-requires
+in-rofr-requires c κs = search needs
+
+in-rofr-requires-2 : tie.Need-in-rofr-requires-2
+in-rofr-requires-2 c κs = search needs
+
+in-settling-requires : tie.Need-in-settling-requires
+in-settling-requires c κs = search needs
+
+in-settling-requires-2 : tie.Need-in-settling-requires-2
+in-settling-requires-2 c κs = search needs
+
+in-settling-requires-3 : tie.Need-in-settling-requires-3
+in-settling-requires-3 c κs = search needs
+
 not-ended-requires : tie.Need-not-ended-requires
 not-ended-requires c κs = search needs
 
@@ -27,27 +45,27 @@ returns-2 c = rw (c .before .match .keys2, c .before-clear2 .ensures)
 
 returns-3 : tie.Need-returns-3
 unfolding admits
-returns-3 c = rw (c .match .keys3)
+returns-3 c = rw (c .before .match .keys3, c .in-allocating .ensures)
 
 returns-4 : tie.Need-returns-4
 unfolding admits
-returns-4 c = rw (c .match .keys4)
+returns-4 c = rw (c .before .match .keys4, c .in-rofr .ensures)
 
 returns-5 : tie.Need-returns-5
 unfolding admits
-returns-5 c = rw (c .match .keys5)
+returns-5 c = rw (c .before .match .keys5, c .in-rofr2 .ensures)
 
 returns-6 : tie.Need-returns-6
 unfolding admits
-returns-6 c = rw (c .match .keys6)
+returns-6 c = rw (c .before .match .keys6, c .in-settling .ensures)
 
 returns-7 : tie.Need-returns-7
 unfolding admits
-returns-7 c = rw (c .match .keys7)
+returns-7 c = rw (c .before .match .keys7, c .in-settling2 .ensures)
 
 returns-8 : tie.Need-returns-8
 unfolding admits
-returns-8 c = rw (c .match .keys8)
+returns-8 c = rw (c .before .match .keys8, c .in-settling3 .ensures)
 
 returns-9 : tie.Need-returns-9
 unfolding admits
@@ -67,6 +85,12 @@ admits-spec =
     (tie.spec
     before-clear-requires
     before-clear-requires-2
+    in-allocating-requires
+    in-rofr-requires
+    in-rofr-requires-2
+    in-settling-requires
+    in-settling-requires-2
+    in-settling-requires-3
     not-ended-requires
     returns
     returns-2

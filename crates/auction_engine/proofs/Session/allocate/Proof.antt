@@ -3,11 +3,10 @@
 use mathlib.Core.Path.{_≡_, sym, _∙_}
 use borrow.Author.Needs.{needs}
 use borrow.Author.Tests.{not-true, not-false}
-use Rattle.auction_engine.specs.Call as call
 use Rattle.auction_engine.specs.Matching.{allocateChecks, done}
-use Rattle.auction_engine.proofs.Answers.{refused-answer}
 use Rattle.auction_engine.proofs.Checks.{Within}
-use Rattle.auction_engine.proofs.Allocating.{checks-within, allocate-refused, turns-decide, turned-orders, answer-done, answer-more}
+use Rattle.auction_engine.proofs.Turns.{Turned, turned-tells}
+use Rattle.auction_engine.proofs.Allocating.{checks-within, allocate-refused, turns-refuse, turned-orders, answer-done, answer-more}
 use Rattle.auction_engine.proofs.Session.allocate.Statement.{statement}
 use Rattle.auction_engine.proofs.Session.allocate.Tie as tie
 
@@ -33,16 +32,16 @@ returns c =
 turned-requires : tie.Need-turned-requires
 turned-requires c κs = let w = within c in (w .orders, w .fills)
 
-refused-requires-2 : tie.Need-refused-requires-2
-refused-requires-2 c κs = search needs
+-- what the turns tell
+turns : (c : tie.After-turned) → Turned (c .before .before .before .args .self) (c .before .before .before .args .max-fills) (c .turned .result)
+turns c = let a = c .before .before .before .args in turned-tells (a .self) (a .max-fills) (c .turned .result) (c .turned .ensures)
 
 returns-2 : tie.Need-returns-2
 returns-2 c =
-    let t = c .before .before .before in
+    let t = c .before .before in
     let e = t .before in
     let a = e .before .before .args in
-    let r = t .turned .result in
-    refused-answer (a .self) (call.allocate (a .now) (a .max-fills)) (r .refusal) (turns-decide (a .self) (a .now) (a .max-fills) r (passed e) (t .turned .ensures)) (c .refused2 .result) (c .refused2 .ensures) (c .before .if2 .taken)
+    turns-refuse (a .self) (a .now) (a .max-fills) (t .turned .result) (passed e) (turns t) (c .if2 .taken)
 
 none-left-requires : tie.Need-none-left-requires
 none-left-requires c κs =
@@ -50,7 +49,7 @@ none-left-requires c κs =
     let t = d .before .before in
     let e = t .before in
     let a = e .before .before .args in
-    turned-orders (a .self) (a .max-fills) (t .turned .result) (t .turned .ensures) (d .if2 .left) (within e .orders)
+    turned-orders (a .self) (a .max-fills) (t .turned .result) (turns t) (d .if2 .left) (within e .orders)
 
 returns-3 : tie.Need-returns-3
 unfolding done
@@ -59,7 +58,7 @@ returns-3 c =
     let t = d .before .before in
     let e = t .before in
     let a = e .before .before .args in
-    answer-more (a .self) (a .max-fills) (t .turned .result) (t .turned .ensures) (d .if2 .left) (a .now) (passed e) (sym (c .before .none-left .ensures) ∙ not-true _ (c .if3 .taken))
+    answer-more (a .self) (a .max-fills) (t .turned .result) (turns t) (d .if2 .left) (a .now) (passed e) (sym (c .before .none-left .ensures) ∙ not-true _ (c .if3 .taken))
 
 phase-after-requires : tie.Need-phase-after-requires
 phase-after-requires c κs = search needs
@@ -77,7 +76,7 @@ returns-4 c =
     let t = d .before .before in
     let e = t .before in
     let a = e .before .before .args in
-    answer-done (a .self) (a .max-fills) (t .turned .result) (t .turned .ensures) (d .if2 .left) (a .now) (passed e) (m .phase-after .result) (p .push .result) (sym (l .before .none-left .ensures) ∙ not-false _ (l .if3 .left)) (m .phase-after .ensures) (p .push .ensures)
+    answer-done (a .self) (a .max-fills) (t .turned .result) (turns t) (d .if2 .left) (a .now) (passed e) (m .phase-after .result) (p .push .result) (sym (l .before .none-left .ensures) ∙ not-false _ (l .if3 .left)) (m .phase-after .ensures) (p .push .ensures)
 
 pub allocate-spec : {M : Type 1} → statement M
 allocate-spec =
@@ -87,7 +86,6 @@ allocate-spec =
     refused-requires
     returns
     turned-requires
-    refused-requires-2
     returns-2
     none-left-requires
     returns-3

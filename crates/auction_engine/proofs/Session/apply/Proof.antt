@@ -43,6 +43,9 @@ finish-requires c κs = search needs
 expire-requires : tie.Need-expire-requires
 expire-requires c κs = search needs
 
+no-such-call-requires : tie.Need-no-such-call-requires
+no-such-call-requires c κs = search needs
+
 refused-requires : tie.Need-refused-requires
 refused-requires c κs = search needs
 
@@ -120,13 +123,13 @@ returns-9 c =
 
 returns-10 : tie.Need-returns-10
 returns-10 c =
-    let m = c .before in
+    let m = c .before .before in
     let a = m .before .before .before .args in
     let k = a .call .kind in
     let r = m .match .rest in
     let q = r .0 .0 .0 .0 in
     let low : 4 < k = omega (arith, q .0 .0 .0 .0 .1, q .0 .0 .0 .1, q .0 .0 .1, q .0 .1, q .1) in
-    applied-unknown (a .call) (a .self) (omega (arith, low, r .0 .0 .0 .1, r .0 .0 .1, r .0 .1, r .1)) (c .refused .result) (c .refused .ensures)
+    applied-unknown (a .call) (a .self) (omega (arith, low, r .0 .0 .0 .1, r .0 .0 .1, r .0 .1, r .1)) (c .refused .result) (rw (c .before .no-such-call .ensures) at (c .refused .ensures))
 
 pub apply-spec : {M : Type 1} → statement M
 apply-spec =
@@ -141,6 +144,7 @@ apply-spec =
     skip-fill-requires
     finish-requires
     expire-requires
+    no-such-call-requires
     refused-requires
     returns
     returns-2

@@ -4,23 +4,14 @@ use borrow.Author.Needs.{needs}
 use Rattle.auction_engine.proofs.Session.made.Statement.{statement}
 use Rattle.auction_engine.proofs.Session.made.Tie as tie
 
-with-order-requires : tie.Need-with-order-requires
-with-order-requires c κs = search needs
-
-with-fill-requires : tie.Need-with-fill-requires
-with-fill-requires c κs = search needs
+changed-requires : tie.Need-changed-requires
+changed-requires c κs = search needs
 
 all-requires : tie.Need-all-requires
 all-requires c κs = search needs
 
 returns : tie.Need-returns
-returns c = rw (c .all .ensures, c .before .with-fill .ensures, c .before .before .with-order .ensures)
+returns c = rw (c .all .ensures, c .before .changed .ensures)
 
 pub made-spec : {M : Type 1} → statement M
-made-spec =
-    tie.close
-    (tie.spec
-    with-order-requires
-    with-fill-requires
-    all-requires
-    returns)
+made-spec = tie.close (tie.spec changed-requires all-requires returns)

@@ -1,16 +1,17 @@
 -- `auction_engine::Session::skip_change` meets its contract: by the law of refused changes, and by that of accepted ones.
 -- Assumes nothing.
-use mathlib.Core.Path.{_≡_, sym, _∙_}
+use mathlib.Core.Path.{_≡_, sym, _∙_, ap}
 use Prim.Native.Nat.{_<_}
 use mir.Facts.{toZ-ofZ}
 use borrow.Author.Needs.{needs}
 use Rattle.book.specs.Limits.{maxFills}
 use Rattle.auction_engine.specs.Call as call
+use Rattle.auction_engine.specs.Session.{fillAt}
 use Rattle.auction_engine.specs.Settlement.{skipEffect, skipEvents}
 use Rattle.auction_engine.specs.Engine.{refusal, effect, events}
 use Rattle.auction_engine.specs.Changes.{changeOf}
 use Rattle.auction_engine.proofs.Changing.{refused-change, accepted-change}
-use Rattle.auction_engine.proofs.Places.{skip-place}
+use Rattle.auction_engine.proofs.Places.{place-is, skip-place}
 use Rattle.auction_engine.proofs.Session.skip_change.Statement.{statement}
 use Rattle.auction_engine.proofs.Session.skip_change.Tie as tie
 
@@ -19,11 +20,15 @@ number : (c : tie.After-skip-refusal)
     → let a = c .before .before .args in c .skip-refusal .result ≡ refusal (a .self) (call.skip (a .now) (a .fill) (a .reason))
 number c = rw (toZ-ofZ (c .before .before .fits .now)) at (c .skip-refusal .ensures)
 
+-- the fill at the place, where the array has one
+fill-is : (c : tie.After-fill-at) → let a = c .before .args in a .fill < maxFills → c .fill-at .result ≡ fillAt (a .self) (a .fill)
+fill-is c h = let a = c .before .args in c .fill-at .ensures ∙ ap (fillAt (a .self)) (place-is maxFills (a .fill) h)
+
 fill-at-requires : tie.Need-fill-at-requires
 fill-at-requires c κs = search needs
 
 skip-refusal-requires : tie.Need-skip-refusal-requires
-skip-refusal-requires c κs = c .fill-at .ensures
+skip-refusal-requires c κs = fill-is c
 
 unchanged-requires : tie.Need-unchanged-requires
 unchanged-requires c κs = search needs
@@ -56,7 +61,7 @@ returns-2 c =
     let n = d .before in
     let a = n .before .before .args in
     accepted-change (a .self) (call.skip (a .now) (a .fill) (a .reason)) 0 _ (a .fill) _ (n .skip-refusal .result) (number n) _
-    (rw (c .before .fill-change .ensures, c .with-bit .ensures, e .one .ensures, n .before .fill-at .ensures (place d))) (d .if1 .left)
+    (rw (c .before .fill-change .ensures, c .with-bit .ensures, e .one .ensures, fill-is (n .before) (place d))) (d .if1 .left)
 
 pub skip-change-spec : {M : Type 1} → statement M
 skip-change-spec =

@@ -1,27 +1,28 @@
 -- `auction_engine::Session::turned` meets its contract: with turns left, what is left decides (`Going`).
 -- Assumes nothing.
-use mathlib.Core.Path.{sym, _∙_}
+use mathlib.Core.Path.{_∙_}
 use Prim.Native.Nat.{_-_, _≤_}
 use borrow.Author.Needs.{needs}
 use borrow.Author.Tests.{not-true, not-false}
 use Rattle.auction_engine.specs.Matching.{pair}
-use Rattle.auction_engine.proofs.Turns.{Going, Free, going-start, going-free, going-stops, going-more, going-end}
+use Rattle.auction_engine.proofs.Turns.{Going, Free, going-start, going-free, going-idle, going-full, going-more, going-end}
 use Rattle.auction_engine.proofs.Session.turned.Statement.{statement}
 use Rattle.auction_engine.proofs.Session.turned.Tie as tie
 
 abbrev Inv-loop : tie.InvT-loop
-Inv-loop n session₀ events₀ i₀ session events i = (i ≤ n) × Going session₀ n (n - i) session events
+Inv-loop self n session₀ events₀ i₀ session events i = (i ≤ n) × Going self n (n - i) session events
 
 abbrev μ-loop : tie.MeasureT-loop
-μ-loop n session₀ events₀ i₀ session events i = n - i
+μ-loop self n session₀ events₀ i₀ session events i = n - i
 
--- past the test, the fill and its event have a place
-ready : (c : tie.Else1 Inv-loop μ-loop) → let p = c .before .before in let q = p .before .before .before in Free (q .loop .session) (q .loop .events) (p .next-pair .result)
+-- past the tests, the fill and its event have a place
+ready : (c : tie.Else2 Inv-loop μ-loop) → let p = c .before .before .before in let q = p .before .before .before in Free (q .loop .session) (q .loop .events) (p .next-pair .result)
 ready c =
-    let p = c .before .before in
+    let d = c .before in
+    let p = d .before .before in
     let q = p .before .before .before in
     let a = q .before .before .args in
-    going-free (a .self) (a .n) (a .n - q .loop .i) (q .loop .session) (q .loop .events) (p .next-pair .result) (q .loop .inv .1) (p .next-pair .ensures) (sym (c .before .both .ensures) ∙ not-false _ (c .if1 .left))
+    going-free (a .self) (a .n) (a .n - q .loop .i) (q .loop .session) (q .loop .events) (p .next-pair .result) (q .loop .inv .1) (p .next-pair .ensures) (not-false _ (d .if1 .left)) (c .if2 .left)
 
 none-requires : tie.Need-none-requires Inv-loop μ-loop
 none-requires c κs = search needs
@@ -32,21 +33,24 @@ loop-holds c = let s = c .before in (search needs, going-start (s .args .n) (s .
 next-pair-requires : tie.Need-next-pair-requires Inv-loop μ-loop
 next-pair-requires c κs = search needs
 
-both-requires : tie.Need-both-requires Inv-loop μ-loop
-both-requires c κs = search needs
-
-unless-requires : tie.Need-unless-requires Inv-loop μ-loop
-unless-requires c κs = search needs
-
 returns : tie.Need-returns Inv-loop μ-loop
 returns c =
+    let p = c .before .before in
+    let q = p .before .before .before in
+    let a = q .before .before .args in
+    going-idle (a .self) (a .n) (q .loop .i) (q .loop .session) (q .loop .events) (p .next-pair .result) (p .before .before .loop-test .taken) (q .loop .inv .1) (p .next-pair .ensures) (not-true _ (c .if1 .taken))
+
+refused-requires : tie.Need-refused-requires Inv-loop μ-loop
+refused-requires c κs = search needs
+
+returns-2 : tie.Need-returns-2 Inv-loop μ-loop
+returns-2 c =
     let d = c .before .before in
     let p = d .before .before in
     let q = p .before .before .before in
     let a = q .before .before .args in
-    rw
-    (c .unless .ensures)
-    (going-stops (a .self) (a .n) (q .loop .i) (q .loop .session) (q .loop .events) (p .next-pair .result) (p .before .before .loop-test .taken) (q .loop .inv .1) (p .next-pair .ensures) (sym (d .before .both .ensures) ∙ not-true _ (d .if1 .taken)))
+    c .refused .ensures
+    ∙ going-full (a .self) (a .n) (q .loop .i) (q .loop .session) (q .loop .events) (p .next-pair .result) (p .before .before .loop-test .taken) (q .loop .inv .1) (p .next-pair .ensures) (not-false _ (d .if1 .left)) (c .before .if2 .taken)
 
 mul-buy : tie.Need-mul-buy Inv-loop μ-loop
 mul-buy c = let f = ready c in search needs
@@ -108,19 +112,22 @@ add-events c = let f = ready (c .before .before .before .before .before .before 
 add-i : tie.Need-add-i Inv-loop μ-loop
 add-i c =
     let e = c .before .before .before .before .before .before .before in
-    let l = e .before .before .before .before in
+    let l = e .before .before .before .before .before in
     let fits = l .before .before .before .fits .n in
     let more = l .loop-test .taken in
     search needs
 
 loop-less : tie.Need-loop-less Inv-loop μ-loop
-loop-less c = search needs
+loop-less c =
+    let e = c .before .before .before .before .before .before .before in
+    let more = e .before .before .before .before .before .loop-test .taken in
+    search needs
 
 loop-again : tie.Need-loop-again Inv-loop μ-loop
 unfolding pair
 loop-again c =
     let e = c .before .before .before .before .before .before .before in
-    let p = e .before .before in
+    let p = e .before .before .before in
     let q = p .before .before .before in
     let a = q .before .before .args in
     let w = c .before in
@@ -131,8 +138,8 @@ loop-again c =
           (going-more (a .self) (a .n) (q .loop .i) (q .loop .session) (q .loop .events) (p .next-pair .result) (p .before .before .loop-test .taken) (q .loop .inv .1) (p .next-pair .ensures) (ready e)),
     )
 
-returns-2 : tie.Need-returns-2 Inv-loop μ-loop
-returns-2 c =
+returns-3 : tie.Need-returns-3 Inv-loop μ-loop
+returns-3 c =
     let q = c .before in
     let a = q .before .before .args in
     going-end (a .self) (a .n) (q .loop .i) (q .loop .session) (q .loop .events) (c .loop-test .left) (q .loop .inv .1)
@@ -146,9 +153,9 @@ turned-spec =
     none-requires
     loop-holds
     next-pair-requires
-    both-requires
-    unless-requires
     returns
+    refused-requires
+    returns-2
     mul-buy
     element-copy-out-buy
     mul-sell
@@ -171,4 +178,4 @@ turned-spec =
     add-i
     loop-less
     loop-again
-    returns-2)
+    returns-3)

@@ -1,0 +1,14 @@
+-- `auction_engine::in_allocating` meets its contract, by the arms.
+-- Assumes nothing.
+use borrow.Author.Tests.{ne-eqb}
+use Rattle.auction_engine.proofs.in_allocating.Statement.{statement}
+use Rattle.auction_engine.proofs.in_allocating.Tie as tie
+
+returns : tie.Need-returns
+returns c = rw (c .match .keys1)
+
+returns-2 : tie.Need-returns-2
+returns-2 c = rw (ne-eqb _ 2 (c .match .rest .1))
+
+pub in-allocating-spec : {M : Type 1} → statement M
+in-allocating-spec = tie.close (tie.spec returns returns-2)

@@ -1,0 +1,147 @@
+// The rows `SH` and `OR`: what opens a session.
+ghost use mathlib.Core.Path.{_≡_};
+ghost use mathlib.Core.Bool.{true, false, cond, not, _&&_, _||_};
+ghost use Prim.Native.Nat.{_+_, _<_, _≤_};
+ghost use lib.Dec.{ltb, leb, eqb};
+ghost use lib.IntN.{pos, _+ℤ_};
+ghost use lib.Signed.{ltZ, leZ};
+ghost use Rattle.laws.specs.Search.{some};
+ghost use Rattle.laws.specs.Lists.{same};
+ghost use Rattle.laws.specs.Checks.{unless, _then_};
+ghost use Rattle.clock.specs.Clock.{sumFits};
+ghost use Rattle.credit_math.specs.Limits.{maxOrders};
+ghost use Rattle.book.specs.Book.{orderIn, noWallet};
+ghost use Rattle.auction_engine.specs.Opening.{headerRefusal, orderRefusal};
+ghost use Rattle.auction_engine.specs.Changes.{orderChange};
+use crate::Session;
+use crate::both;
+use crate::changes::Change;
+use crate::either;
+use crate::first_of;
+use crate::unless;
+use book::Given;
+use book::Order;
+use book::Params;
+use book::Row;
+
+// InvalidSchedule.
+const INVALID_SCHEDULE: u8 = 5;
+// ZeroAmount, in a header or an order.
+const ZERO_AMOUNT: u8 = 6;
+// BookFull: a seventeenth order.
+const BOOK_FULL: u8 = 7;
+// DuplicateOrder: an owner seen.
+const DUPLICATE_ORDER: u8 = 8;
+
+// 4 a field outside its values; 5 an invalid schedule; 6 no cash cap.
+pub fn header_refusal(p: Params, g: Given) -> u8
+    ensures { λ r. ⌜ r ≡ headerRefusal p g ⌝ }
+{
+    let reserve = unless(!both(p.forced, 0 < g.reserve), book::error::BAD_FIELD);
+    let policy = unless(g.policy <= 3, book::error::BAD_FIELD);
+    let band = unless(g.band_bps <= disclosure::MAX_BAND, book::error::BAD_FIELD);
+    first_of(
+        reserve,
+        first_of(policy, first_of(band, schedule_refusal(p))),
+    )
+}
+
+fn schedule_refusal(p: Params) -> u8
+    ensures { λ r. ⌜ r ≡ unless (ltZ (p .«reveal_end») (p .«settle_deadline»)) 5
+        then unless (leZ (pos 0) (p .«rofr_window»)) 5
+        then unless (not (same (p .«rofr_authority») noWallet) || leZ (p .«rofr_window») (pos 0)) 5
+        then unless (sumFits (p .«reveal_end») (p .«rofr_window»)) 5
+        then unless (ltZ (p .«reveal_end» +ℤ p .«rofr_window») (p .«settle_deadline»)) 5
+        then unless (leb 2 (p .«min_reveals»)) 5
+        then unless (ltb 0 (p .«max_cash»)) 6 ⌝ }
+{
+    let authority = p.rofr_authority;
+    let none = book::same_key(authority, [0; 32]);
+    let times = unless(
+        clock::before(p.reveal_end, p.settle_deadline),
+        INVALID_SCHEDULE,
+    );
+    let window = unless(clock::not_before(p.rofr_window, 0), INVALID_SCHEDULE);
+    let owner = unless(
+        either(!none, clock::not_before(0, p.rofr_window)),
+        INVALID_SCHEDULE,
+    );
+    first_of(times, first_of(window, first_of(owner, end_refusal(p))))
+}
+
+// The end of the issuer's window fits and is before the deadline; two reveals at least; then the cash cap.
+fn end_refusal(p: Params) -> u8
+    ensures { λ r. ⌜ r ≡ unless (sumFits (p .«reveal_end») (p .«rofr_window»)) 5
+        then unless (ltZ (p .«reveal_end» +ℤ p .«rofr_window») (p .«settle_deadline»)) 5
+        then unless (leb 2 (p .«min_reveals»)) 5
+        then unless (ltb 0 (p .«max_cash»)) 6 ⌝ }
+{
+    let fits = unless(
+        clock::sum_fits(p.reveal_end, p.rofr_window),
+        INVALID_SCHEDULE,
+    );
+    let end = clock::sum_before(p.reveal_end, p.rofr_window, p.settle_deadline);
+    let below = unless(end, INVALID_SCHEDULE);
+    let reveals = unless(2 <= p.min_reveals, INVALID_SCHEDULE);
+    let cash = unless(0 < p.max_cash, ZERO_AMOUNT);
+    first_of(fits, first_of(below, first_of(reveals, cash)))
+}
+
+// 4 side; 6 escrow 0, revealed with limit or qty 0, unrevealed with either not 0; 7 seventeenth; 8 owner seen.
+pub fn order_refusal(s: Session, row: Row) -> u8
+    ensures { λ r. ⌜ r ≡ orderRefusal s row ⌝ }
+{
+    let side = unless(row.side <= 1, book::error::BAD_FIELD);
+    let escrow = unless(0 < row.escrowed, ZERO_AMOUNT);
+    let figures = unless(shows_right(row), ZERO_AMOUNT);
+    let full = unless(s.order_count < Session::MAX_ORDERS, BOOK_FULL);
+    let refusal = first_of(side, first_of(escrow, first_of(figures, full)));
+    if refusal != 0 {
+        return refusal;
+    }
+    let orders = s.orders;
+    let owner = row.owner;
+    unless(!owner_seen(orders, s.order_count, owner), DUPLICATE_ORDER)
+}
+
+// Revealed with both figures, or unrevealed with none.
+fn shows_right(row: Row) -> bool
+    ensures { λ r. ⌜ r ≡ cond (row .revealed) (ltb 0 (row .limit) && ltb 0 (row .qty)) (eqb (row .limit) 0 && eqb (row .qty) 0) ⌝ }
+{
+    if row.revealed {
+        return both(0 < row.limit, 0 < row.qty);
+    }
+    both(row.limit == 0, row.qty == 0)
+}
+
+fn owner_seen(orders: [Order; Session::MAX_ORDERS], n: usize, owner: [u8; 32]) -> bool
+    requires { ⌜ n ≤ maxOrders ⌝ }
+    ensures { λ r. ⌜ r ≡ some (λ i. same (orderIn orders i .owner) owner) n ⌝ }
+{
+    let mut i = 0;
+    while i < n {
+        let o = orders[i];
+        let seen = o.owner;
+        if book::same_key(seen, owner) {
+            return true;
+        }
+        i += 1;
+    }
+    false
+}
+
+// What one order more changes, or the number that refuses it.
+pub fn order_change(s: Session, row: Row) -> Change
+    ensures { λ r. ⌜ r ≡ orderChange s row ⌝ }
+{
+    let refusal = order_refusal(s, row);
+    let mut c = s.unchanged(refusal);
+    if refusal != 0 {
+        return c;
+    }
+    let at = s.order_count;
+    c.order_at = at;
+    c.order = Order::listed(row);
+    c.order_count = at + 1;
+    c
+}
