@@ -13,7 +13,7 @@ use Rattle.auction_engine.specs.Session.{fillAt, allocating, issuerRofr, settli
 use Rattle.auction_engine.specs.Call.{Call, screen, clear, allocate, exercise, close, settle, skip, finish, expire, admits, limitsRefusal, fieldsRefusal, argumentsRefusal}
 use Rattle.auction_engine.specs.Screening.{screenRefusal}
 use Rattle.auction_engine.specs.Clearing.{outcome, clearChecks, clearRefusal}
-use Rattle.auction_engine.specs.Matching.{allocateRefusal}
+use Rattle.auction_engine.specs.Matching.{overfull, allocateRefusal}
 use Rattle.auction_engine.specs.Rofr.{exerciseRefusal, closeRefusal}
 use Rattle.auction_engine.specs.Settlement.{settleRefusal, skipRefusal, finishRefusal, expireRefusal}
 use Rattle.auction_engine.specs.Engine.{ownRefusal, refusal, effect}
@@ -56,6 +56,10 @@ outcome-passes s now e = then-zero (clearChecks s now) (outcome s .refusal) (own
 pub at-allocate : (s : Session) (now : ℤ) (n : ℕ) → refusal s (allocate now n) ≡ 0 → s .phase ≡ allocating
 unfolding ownRefusal allocateRefusal admits
 at-allocate s now n e = eqb-true _ _ (check-zero _ _ _ (own-passes s (allocate now n) e) .0)
+
+pub not-full : (s : Session) (now : ℤ) (n : ℕ) → refusal s (allocate now n) ≡ 0 → overfull n s ≡ false
+unfolding ownRefusal allocateRefusal
+not-full s now n e = not-true _ (unless-zero _ _ (check-zero _ _ _ (own-passes s (allocate now n) e) .1))
 
 -- a purchase
 pub record Exercised (s : Session) (issuer : List ℕ) (i q : ℕ) : Type 0 where

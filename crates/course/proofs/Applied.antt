@@ -3,15 +3,17 @@ use mathlib.Core.Path.{_≡_, refl, sym, ap, _∙_}
 use mathlib.Core.Bool.{Bool, true, false, cond}
 use mathlib.Core.List.{List, [], _∷_}
 use lib.Dec.{eqb, leb}
+use Rattle.laws.specs.Checks.{_then_}
 use Rattle.events.specs.Events.{packed}
 use Rattle.auction_engine.specs.declared.Session.{Session}
 use Rattle.auction_engine.specs.declared.CallRecord.{CallRecord}
-use Rattle.auction_engine.specs.Call.{Call, screen, clear, allocate, exercise, close, settle, skip, finish, expire}
+use Rattle.auction_engine.specs.Call.{Call, screen, clear, allocate, exercise, close, settle, skip, finish, expire, limitsRefusal}
 use Rattle.auction_engine.specs.Engine.{refusal, effect, events, refusedBy, answer, callOf, applied}
 use Rattle.course.specs.Course.{Run, begin, note, advance, run}
 use Rattle.course.specs.Applied.{sessionAfter, applyAll, callsOf, RunIsAnswers, ApplyIsRun}
 
-note-session : (r : Run) (s : Session) (c : Call) → note r s c .session ≡ s
+-- a noted call hands on its session
+pub note-session : (r : Run) (s : Session) (c : Call) → note r s c .session ≡ s
 unfolding note
 note-session r s (screen now i side verdict hasId id) = refl
 note-session r s (clear now) = refl
@@ -47,7 +49,7 @@ records-session s (r ∷ records) = go (leb (r .kind) 8) (records-session (answe
   where
     go : (x : Bool) → applyAll (answer s (callOf r) .session) records ≡ sessionAfter (answer s (callOf r) .session) (callsOf records)
         → applyAll s records ≡ sessionAfter s (callsOf records)
-        → applyAll (cond x (answer s (callOf r)) (refusedBy s 4) .session) records ≡ sessionAfter s (cond x (callOf r ∷ callsOf records) (callsOf records))
+        → applyAll (cond x (answer s (callOf r)) (refusedBy s (limitsRefusal s then 4)) .session) records ≡ sessionAfter s (cond x (callOf r ∷ callsOf records) (callsOf records))
     go true h k = h
     go false h k = k
 

@@ -20,6 +20,10 @@ pub few-orders : (s : Session) → limitsRefusal s ≡ 0 → s .«order_count» 
 unfolding limitsRefusal
 few-orders s e = leb-true _ _ (check-zero _ _ _ e .0)
 
+pub few-fills : (s : Session) → limitsRefusal s ≡ 0 → s .«fill_count» ≤ maxFills
+unfolding limitsRefusal
+few-fills s e = leb-true _ _ (check-zero _ _ _ (check-zero _ _ _ e .1) .0)
+
 pub known-sides : (s : Session) → fieldsRefusal s ≡ 0 → (i : ℕ) → i < s .«order_count» → orderAt s i .side ≤ 1
 unfolding fieldsRefusal
 known-sides s e i l =

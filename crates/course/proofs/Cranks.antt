@@ -30,7 +30,7 @@ one-frame f t e = go (due t) refl
     go true d = ap f (one-due t d) ∙ e (buyAt t) (sellAt t) (dueQty t)
     go false d = ap f (one-idle t d)
 
-crank-frame : {B : Type 0} (f : Session → B) → ((t : Session) (b a q : ℕ) → f (pair t b a q) ≡ f t) → (n : ℕ) (t : Session) → f (crank n t) ≡ f t
+pub crank-frame : {B : Type 0} (f : Session → B) → ((t : Session) (b a q : ℕ) → f (pair t b a q) ≡ f t) → (n : ℕ) (t : Session) → f (crank n t) ≡ f t
 unfolding crank
 crank-frame f e zero t = refl
 crank-frame f e (suc n) t = crank-frame f e n (one t) ∙ one-frame f t (e t)

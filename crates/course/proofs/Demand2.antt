@@ -14,8 +14,9 @@ use Rattle.laws.proofs.Tests.{tested, both, lt-or-le}
 use Rattle.laws.proofs.Sums.{sum-same}
 use Rattle.laws.proofs.Checks.{then-zero}
 use Rattle.credit_math.specs.Limits.{maxOrders}
+use Rattle.credit_math.specs.Error.{noCross}
 use Rattle.book.specs.Book.{noOrder, isLive, isBuy}
-use Rattle.book.specs.Clear.{liveOrders, failedBy, refusedWith, tooFewReveals, markUnavailable, noCrossReason, mathOverflow}
+use Rattle.book.specs.Clear.{liveOrders, failedBy, refusedWith, tooFewReveals, markUnavailable, mathOverflow}
 use Rattle.book.specs.Claims as book
 use Rattle.book.specs.Claims.{takesPart, has-price, ClearIsRight}
 use Rattle.book.specs.declared.Order.{Order}
@@ -95,8 +96,8 @@ module _ (s : Session) (now : ℤ) where
     unmarked-is h t = found (failedBy markUnavailable) (sym (C s .unmarked h t)) ∙ fails-is markUnavailable (λ e. omega arith)
 
     module _ (c : Clearable s) where
-      no-cross-is : ((q : ℕ) → Executes s q → ⊥) → answer s (clear now) ≡ fails s noCrossReason
-      no-cross-is h = found (failedBy noCrossReason) (C s .one-outcome c (failedBy noCrossReason) (book.no-cross h refl)) ∙ fails-is noCrossReason (λ e. omega arith)
+      no-cross-is : ((q : ℕ) → Executes s q → ⊥) → answer s (clear now) ≡ fails s noCross
+      no-cross-is h = found (failedBy noCross) (C s .one-outcome c (failedBy noCross) (book.no-cross h refl)) ∙ fails-is noCross (λ e. omega arith)
 
       module _ (price : ℕ) (best : BestPrice s price) where
         large-is : 2 ^ 64 ≤ executedAt s price → answer s (clear now) ≡ refusedBy s mathOverflow
@@ -128,10 +129,10 @@ module _ (s : Session) (now : ℤ) where
       by-outcome o (has-price k) = right-at (o .price) (k .best) (subst (λ (x : ℕ). x < 2 ^ 64) (k .volume) (k .fits))
 
       -- an answer with a price, or refused, does not fail
-      exactly : (answer s (clear now) ≡ fails s noCrossReason) ↔ ((q : ℕ) → Executes s q → ⊥)
+      exactly : (answer s (clear now) ≡ fails s noCross) ↔ ((q : ℕ) → Executes s q → ⊥)
       exactly = (λ e. go (outcome s) (C s .right c) e, no-cross-is)
         where
-          go : (o : Outcome) → book.RightClear (s .params) (s .given) (s .orders) (s .«order_count») o → answer s (clear now) ≡ fails s noCrossReason
+          go : (o : Outcome) → book.RightClear (s .params) (s .given) (s .orders) (s .«order_count») o → answer s (clear now) ≡ fails s noCross
               → (q : ℕ) → Executes s q → ⊥
           go o (book.no-cross h f) e = h
           go o (book.too-large q best h f) e = absurd (omega (arith, ap (λ (a : Answer). a .refusal) (sym (large-is q best h) ∙ e)))

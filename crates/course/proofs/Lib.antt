@@ -15,7 +15,12 @@ pub mod Enough
 pub mod Completes
 pub mod Demand3
 pub mod Applied
+pub mod Passing
 pub mod CaseL
 pub mod Demand2
 pub mod Refusals
 pub mod IdleAnswers
+pub mod LinesOfCalls
+pub mod LinesOfSettles
+pub mod LinesOfPrints
+pub mod Lines

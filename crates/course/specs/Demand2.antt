@@ -9,8 +9,9 @@ use lib.IntN.{ℤ}
 use lib.ListN.{length, getD}
 use Rattle.laws.specs.Sums.{sumBelow, only}
 use Rattle.laws.specs.Checks.{_then_}
+use Rattle.credit_math.specs.Error.{noCross}
 use Rattle.book.specs.Book.{isBuy}
-use Rattle.book.specs.Clear.{liveOrders, allocations, floorOf, tooFewReveals, markUnavailable, noCrossReason, mathOverflow}
+use Rattle.book.specs.Clear.{liveOrders, allocations, floorOf, tooFewReveals, markUnavailable, mathOverflow}
 use Rattle.book.specs.Claims as book
 use Rattle.events.specs.Events.{packed}
 use Rattle.events.specs.declared.Event.the-variants as event
@@ -86,7 +87,7 @@ module _ (s : Session) where
     unmarked : s .params .«min_reveals» ≤ length (liveOrders (s .orders) (s .«order_count»)) → s .params .forced ≡ false → s .given .mark ≡ false
         → a ≡ fails markUnavailable → RightClear a
     -- 'clearing ends in NoCross exactly when no live limit at or above the reserve executes anything'
-    no-cross : Clearable → ((q : ℕ) → Executes q → ⊥) → a ≡ fails noCrossReason → RightClear a
+    no-cross : Clearable → ((q : ℕ) → Executes q → ⊥) → a ≡ fails noCross → RightClear a
     -- '17 volume above 64 bits'
     too-large : Clearable → (price : ℕ) → BestPrice price → 2 ^ 64 ≤ executedAt price → a ≡ refusedBy s mathOverflow → RightClear a
     -- 'otherwise the price is the best ..'
@@ -98,4 +99,4 @@ pub record Demand2 (s : Session) (now : ℤ) : Type 0 where
   pub right : checks s now ≡ 0 → RightClear s (answer s (clear now))
   pub one-answer : checks s now ≡ 0 → (a : Answer) → RightClear s a → a ≡ answer s (clear now)
   -- 'with enough live orders, and a mark unless the sale is forced, clearing ends in NoCross exactly when ..'
-  pub no-cross-exactly : checks s now ≡ 0 → Clearable s → (answer s (clear now) ≡ fails s noCrossReason) ↔ ((q : ℕ) → Executes s q → ⊥)
+  pub no-cross-exactly : checks s now ≡ 0 → Clearable s → (answer s (clear now) ≡ fails s noCross) ↔ ((q : ℕ) → Executes s q → ⊥)

@@ -4,4 +4,5 @@ pub mod Demand3
 pub mod Applied
 pub mod CaseL
 pub mod Demand2
+pub mod Lines
 pub mod Refusals

@@ -1,0 +1,203 @@
+-- Every session that an opening and calls come to passes the checks 9 and 4 of any call. Assumes nothing.
+use mathlib.Core.Path.{_≡_, refl, sym, ap, _∙_, subst}
+use mathlib.Core.Logic.{_≢_, ⊎-elim}
+use mathlib.Core.Bool.{Bool, true, false, cond}
+use mathlib.Core.List.{List, [], _∷_}
+use Prim.Native.Nat.{ℕ, zero, suc, _+_, _≤_, _<_}
+use native.Mathlib.Decide.{ℕ-discrete}
+use native.Mathlib.Omega.{arith}
+use borrow.Author.Tests.{ltb-true, leb-true, leb-false, le-leb, eqb-true}
+use lib.Dec.{leb, eqb}
+use lib.ListN.{length, set, length-set, length-replicate}
+use lib.Seq.{getD-set-same, getD-set-other}
+use Rattle.laws.specs.Search.{every}
+use Rattle.laws.specs.Lists.{same}
+use Rattle.laws.proofs.Tests.{tested, clash}
+use Rattle.laws.proofs.Search.{every-all}
+use Rattle.laws.proofs.Lists.{unseen}
+use Rattle.laws.proofs.Checks.{check-zero, check-pass, unless-pass}
+use Rattle.credit_math.specs.Limits.{maxOrders}
+use Rattle.book.specs.Limits.{maxFills}
+use Rattle.book.specs.Book.{noOrder, noWallet, orderIn, listed, emptyOrder}
+use Rattle.book.specs.declared.Order.{Order}
+use Rattle.book.specs.declared.Params.{Params}
+use Rattle.book.specs.declared.Given.{Given}
+use Rattle.book.specs.declared.Row.{Row}
+use Rattle.auction_engine.specs.declared.Session.{Session}
+use Rattle.auction_engine.specs.Session.{orderAt, fresh, atPhase, issuerRofr, settling}
+use Rattle.auction_engine.specs.Call.{Call, screen, clear, allocate, exercise, close, settle, skip, finish, expire, limitsRefusal, fieldsRefusal}
+use Rattle.auction_engine.specs.Screening.{screenEffect}
+use Rattle.auction_engine.specs.Clearing.{outcome, withLots, clearedBy}
+use Rattle.auction_engine.specs.Matching.{lessLeft, due, pair, one, crank, overfull, done, phaseAfter, matched, allocateEffect}
+use Rattle.auction_engine.specs.Rofr.{exerciseEffect, closeEffect}
+use Rattle.auction_engine.specs.Settlement.{settleEffect, skipEffect, finishEffect, expireEffect}
+use Rattle.auction_engine.specs.Engine.{refusal, effect, answer}
+use Rattle.auction_engine.specs.Opening.{headerRefusal, orderRefusal, withOrder, withRows, RowsAccepted, Opening, opened}
+use Rattle.auction_engine.proofs.Cranks.{due-count, due-full, free-full, idle-crank, crank-orders}
+use Rattle.course.specs.Applied.{sessionAfter}
+use Rattle.course.specs.Demand3.{after}
+use Rattle.course.proofs.Cranks.{crank-frame, crank-phase, crank-params, crank-given}
+use Rattle.course.proofs.Accepted.{at-allocate, not-full, exercised, settles, skips}
+use Rattle.course.proofs.Checked.{few-fills, known-sides, limits-stand, fields-stand}
+use Rattle.course.proofs.Applied.{run-is-answers}
+
+pub record Passes (s : Session) : Type 0 where
+  pub limits : limitsRefusal s ≡ 0
+  pub fields : fieldsRefusal s ≡ 0
+
+-- ---- the opening
+-- while orders come, each has its place
+record Opens (s : Session) : Type 0 where
+  passes : Passes s
+  places : length (s .orders) ≡ maxOrders
+
+-- an accepted header
+header-opens : (p : Params) (g : Given) → headerRefusal p g ≡ 0 → Opens (fresh p g)
+unfolding headerRefusal limitsRefusal fieldsRefusal fresh every
+header-opens p g e =
+    let forced = check-zero _ 3 _ e in
+    let policy = check-zero _ 3 _ (forced .1) in
+    let band = check-zero _ 3 _ (policy .1) in
+    let fits = check-zero _ 4 _ (check-zero _ 4 _ (check-zero _ 4 _ (check-zero _ 4 _ (band .1) .1) .1) .1) in
+    record {
+      passes = record {
+        limits = check-pass _ 9 _ refl (check-pass _ 9 _ refl (check-pass _ 9 _ (band .0) (check-pass _ 9 _ (forced .0) (unless-pass _ 9 (fits .0)))));
+        fields = check-pass _ 4 _ refl (check-pass _ 4 _ (policy .0) (unless-pass _ 4 refl));
+      };
+      places = length-replicate maxOrders emptyOrder;
+    }
+
+-- an accepted order: its side is in range, and there was a place for it
+module _ (s : Session) (row : Row) (e : orderRefusal s row ≡ 0) (o : Opens s) where
+  row-side : row .side ≤ 1
+  unfolding orderRefusal
+  row-side = leb-true (row .side) 1 (check-zero _ 3 _ e .0)
+
+  room : s .«order_count» < maxOrders
+  unfolding orderRefusal
+  room = ltb-true (s .«order_count») maxOrders (check-zero _ 6 _ (check-zero _ 5 _ (check-zero _ 5 _ (check-zero _ 3 _ e .1) .1) .1) .0)
+
+  last-side : orderAt (withOrder s row) (s .«order_count») .side ≡ row .side
+  unfolding withOrder
+  last-side = ap (λ (x : Order). x .side) (getD-set-same (s .orders) (s .«order_count») (listed row) noOrder (omega (arith, room, o .places)))
+
+  old-side : (i : ℕ) → i ≢ s .«order_count» → orderAt (withOrder s row) i .side ≡ orderAt s i .side
+  unfolding withOrder
+  old-side i d = ap (λ (x : Order). x .side) (getD-set-other (s .orders) (s .«order_count») i (listed row) noOrder d)
+
+  sides-more : (i : ℕ) → i < s .«order_count» + 1 → orderAt (withOrder s row) i .side ≤ 1
+  sides-more i l = go (ℕ-discrete i (s .«order_count»))
+    where
+      go : Dec (i ≡ s .«order_count») → orderAt (withOrder s row) i .side ≤ 1
+      go (yes q) = omega (arith, row-side, last-side, ap (λ (j : ℕ). orderAt (withOrder s row) j .side) q)
+      go (no q) = omega (arith, old-side i q, known-sides s (o .passes .fields) i (omega arith))
+
+  order-opens : Opens (withOrder s row)
+  unfolding limitsRefusal fieldsRefusal withOrder
+  order-opens =
+      let limits = check-zero _ 8 _ (o .passes .limits) in
+      let fields = check-zero _ 3 _ (o .passes .fields) in
+      record {
+        passes = record {
+          limits = check-pass _ 9 _ (le-leb (s .«order_count» + 1) maxOrders (omega (arith, room))) (limits .1);
+          fields =
+              check-pass _ 4 _ (fields .0)
+              (check-pass _ 4 _ (check-zero _ 3 _ (fields .1) .0)
+              (unless-pass _ 4 (every-all (λ i. leb (orderAt (withOrder s row) i .side) 1) (s .«order_count» + 1)
+              (λ i l. le-leb (orderAt (withOrder s row) i .side) 1 (sides-more i l)))));
+        };
+        places = rw length-set (o .places);
+      }
+
+rows-open : (s : Session) (rows : List Row) → RowsAccepted s rows → Opens s → Opens (withRows s rows)
+rows-open s [] a o = o
+rows-open s (row ∷ rows) a o = rows-open (withOrder s row) rows (a .1) (order-opens s row (a .0) o)
+
+opened-passes : (o : Opening) → Passes (opened o)
+opened-passes o = rows-open (fresh (o .params) (o .given)) (o .rows) (o .rows-accepted) (header-opens (o .params) (o .given) (o .header-accepted)) .passes
+
+-- ---- what calls leave: the sides of orders, and the number of fills
+lots-side : (orders : List Order) (lots : List ℕ) (n i : ℕ) → orderIn (withLots orders lots n) i .side ≡ orderIn orders i .side
+unfolding withLots
+lots-side orders lots zero i = refl
+lots-side orders lots (suc n) i =
+    unseen (λ (o : Order). o .side) (withLots orders lots n) n _ noOrder (sym (lots-side orders lots n n)) i ∙ lots-side orders lots n i
+
+pair-side : (t : Session) (b a q i : ℕ) → orderAt (pair t b a q) i .side ≡ orderAt t i .side
+unfolding pair
+pair-side t b a q i =
+    let half : List Order = set (t .orders) b (lessLeft (orderAt t b) q) in
+    let kept : (j : ℕ) → orderIn half j .side ≡ orderAt t j .side = unseen (λ (o : Order). o .side) (t .orders) b (lessLeft (orderAt t b) q) noOrder refl in
+    unseen (λ (o : Order). o .side) half a (lessLeft (orderAt t a) q) noOrder (sym (kept a)) i ∙ kept i
+
+crank-few : (n : ℕ) (s : Session) → s .«fill_count» ≤ maxFills → overfull n s ≡ false → crank n s .«fill_count» ≤ maxFills
+unfolding crank
+crank-few zero s h e = h
+crank-few (suc n) s h e = go (due s) refl (leb maxFills (s .«fill_count»)) refl (crank-few n (one s))
+  where
+    go : (x : Bool) → due s ≡ x → (y : Bool) → leb maxFills (s .«fill_count») ≡ y
+        → (one s .«fill_count» ≤ maxFills → overfull n (one s) ≡ false → crank n (one s) .«fill_count» ≤ maxFills) → crank (suc n) s .«fill_count» ≤ maxFills
+    go false d y f ih = rw (idle-crank s d (suc n)) h
+    go true d false f ih =
+        let l : s .«fill_count» < maxFills = leb-false maxFills (s .«fill_count») f in
+        ih (omega (arith, due-count s d)) (sym (free-full n s l) ∙ e)
+    go true d true f ih = absurd (clash (overfull (suc n) s) (due-full s d n (leb-true maxFills (s .«fill_count») f)) e)
+
+after-known : (s : Session) → phaseAfter s ≤ 7
+unfolding phaseAfter
+after-known s = go (same (s .params .«rofr_authority») noWallet)
+  where
+    go : (x : Bool) → cond x settling issuerRofr ≤ 7
+    go true = omega arith
+    go false = omega arith
+
+-- ---- a call
+-- t has what the checks read of s, but for fills and phase
+stands : (s t : Session) → Passes s → t .«order_count» ≡ s .«order_count» → t .given ≡ s .given → t .params ≡ s .params
+    → t .«fill_count» ≤ maxFills → t .phase ≤ 7 → ((i : ℕ) → orderAt t i .side ≡ orderAt s i .side) → Passes t
+stands s t P n g p f h sides = record { limits = limits-stand s t n g p f (P .limits); fields = fields-stand s t n g h (λ i l. sides i) (P .fields) }
+
+either : (x : Bool) (s t : Session) → Passes s → Passes t → Passes (cond x s t)
+either true s t P Q = P
+either false s t P Q = Q
+
+crank-passes : (n : ℕ) (s : Session) → Passes s → s .phase ≤ 7 → overfull n s ≡ false → Passes (crank n s)
+crank-passes n s P h e =
+    stands s (crank n s) P (crank-orders n s) (crank-given n s) (crank-params n s) (crank-few n s (few-fills s (P .limits)) e) (omega (arith, crank-phase n s))
+    (λ i. crank-frame (λ t. orderAt t i .side) (λ t b a q. pair-side t b a q i) n s)
+
+matched-passes : (t : Session) → Passes t → Passes (matched t)
+matched-passes t P = either (done t) (atPhase t (phaseAfter t)) t (stands t _ P refl refl refl (few-fills t (P .limits)) (after-known t) (λ i. refl)) P
+
+effect-passes : (s : Session) (c : Call) → Passes s → refusal s c ≡ 0 → Passes (effect s c)
+unfolding effect screenEffect clearedBy allocateEffect exerciseEffect closeEffect settleEffect skipEffect finishEffect expireEffect
+effect-passes s (screen now i side verdict hasId id) P e =
+    stands s _ P refl refl refl (few-fills s (P .limits)) (omega arith) (λ j. unseen (λ (o : Order). o .side) (s .orders) i _ noOrder refl j)
+effect-passes s (clear now) P e =
+    either (eqb (outcome s .failed) 0) _ _
+    (stands s _ P refl refl refl (few-fills s (P .limits)) (omega arith) (lots-side (s .orders) (outcome s .lots) (s .«order_count»)))
+    (stands s _ P refl refl refl (few-fills s (P .limits)) (omega arith) (λ j. refl))
+effect-passes s (allocate now n) P e = matched-passes (crank n s) (crank-passes n s P (omega (arith, at-allocate s now n e)) (not-full s now n e))
+effect-passes s (exercise now issuer i q) P e =
+    let E = exercised s now issuer i q e in stands s _ P refl refl refl (omega (arith, E .free)) (omega (arith, E .at)) (λ j. refl)
+effect-passes s (close now caller) P e = stands s _ P refl refl refl (few-fills s (P .limits)) (omega arith) (λ j. refl)
+effect-passes s (settle i) P e = stands s _ P refl refl refl (few-fills s (P .limits)) (omega (arith, settles s i e .at)) (λ j. refl)
+effect-passes s (skip now i reason) P e = stands s _ P refl refl refl (few-fills s (P .limits)) (omega (arith, skips s now i reason e .at)) (λ j. refl)
+effect-passes s (finish now) P e = stands s _ P refl refl refl (few-fills s (P .limits)) (omega arith) (λ j. refl)
+effect-passes s (expire now) P e = stands s _ P refl refl refl (few-fills s (P .limits)) (omega arith) (λ j. refl)
+
+-- ---- calls in turn
+answer-passes : (s : Session) (c : Call) → Passes s → Passes (answer s c .session)
+unfolding answer
+answer-passes s c P =
+    ⊎-elim
+    (λ (t : eqb (refusal s c) 0 ≡ true). rw t (effect-passes s c P (eqb-true (refusal s c) 0 t)))
+    (λ (t : eqb (refusal s c) 0 ≡ false). rw t P)
+    (tested (eqb (refusal s c) 0))
+
+answers-pass : (s : Session) (calls : List Call) → Passes s → Passes (sessionAfter s calls)
+answers-pass s [] P = P
+answers-pass s (c ∷ calls) P = answers-pass (answer s c .session) calls (answer-passes s c P)
+
+pub checks-pass : (o : Opening) (calls : List Call) → Passes (after (opened o) calls .session)
+checks-pass o calls = subst Passes (sym (run-is-answers (opened o) calls)) (answers-pass (opened o) calls (opened-passes o))
