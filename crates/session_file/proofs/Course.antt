@@ -1,54 +1,134 @@
--- The sessions between the records of a file are those that `run` makes of its calls, from an opening: by induction on the number of records.
--- Assumes nothing.
-use mathlib.Core.Path.{_≡_, refl, sym, ap, _∙_}
-use mathlib.Core.Bool.{Bool, true, false, cond}
-use mathlib.Core.List.{List, [], _∷_, _++_, append-nil}
-use Prim.Native.Nat.{ℕ, zero, suc, _+_, _<_}
+-- The records of a file are a course: one header, orders, and calls from the session that these open; and a clear with a `clear` line is where
+-- demand 3 starts. Assumes nothing.
+use mathlib.Core.Path.{_≡_, refl, sym, ap, _∙_, subst}
+use mathlib.Core.Logic.{_≢_, _⊎_, inl, inr, ⊎-elim}
+use mathlib.Core.Bool.{Bool, true, false, cond, _&&_, false≢true}
+use mathlib.Core.List.{List, [], _∷_, _++_, append-nil, append-assoc}
+use Prim.Native.Nat.{ℕ, zero, suc, _≤_, _<_}
 use native.Mathlib.Omega.{arith}
-use lib.Dec.{eqb, ltb}
+use lib.Dec.{eqb, ltb, leb}
+use lib.IntN.{ℤ}
 use lib.ListN.{length, drop}
-use borrow.Author.Tests.{eqb-true, ltb-true}
+use borrow.Author.Tests.{eqb-true, eq-eqb, ltb-true, leb-true}
+use Rattle.laws.proofs.Tests.{both}
 use Rattle.book.specs.declared.Row.{Row}
-use Rattle.events.specs.Events.{packed}
+use Rattle.events.specs.declared.Event.{Event}
+use Rattle.events.specs.declared.Event.the-variants.{Cleared, Refused}
 use Rattle.auction_engine.specs.declared.Session.{Session}
-use Rattle.auction_engine.specs.Call.{Call, screen, clear, allocate, exercise, close, settle, skip, finish, expire}
-use Rattle.auction_engine.specs.Engine.{refusal, effect, events, refusedBy, answer}
 use Rattle.auction_engine.specs.Session.{fresh}
-use Rattle.auction_engine.specs.Opening.{Opening, opened, withOrder, withRows, RowsAccepted, headerRefusal, orderRefusal}
-use Rattle.course.specs.Course.{Run, begin, note, advance, run}
-use Rattle.session_file.specs.declared.runner.Runner.{Runner}
-use Rattle.session_file.specs.Records.{Read, refused, header, order, call, widthOf, markAt}
-use Rattle.session_file.specs.Runner.{start, readRefusal, readAt, wentOn, stopped, took, turnAt}
-use Rattle.session_file.specs.Claims.{runnerAt, rowIn, rowsIn, callIn, callsIn, Opens, Standing, unopened, ordering, calling, FileIsCourse}
-use Rattle.session_file.proofs.Accepted.{Stands, read-stands}
+use Rattle.auction_engine.specs.Call.{Call, clear}
+use Rattle.auction_engine.specs.Engine.{refusal, effect, events, answer}
+use Rattle.auction_engine.specs.Opening.{Opening, opened, withOrder, withRows, RowsAccepted, orderRefusal}
+use Rattle.course.specs.Demand3.{JustCleared}
+use Rattle.course.specs.Applied.{sessionAfter}
+use Rattle.course.proofs.Applied.{run-is-answers}
+use Rattle.session_file.specs.Marks.{inPlace, noKind, headerKind, orderKind, callKind}
+use Rattle.session_file.specs.Fields.{Read, refused, header, order, call}
+use Rattle.session_file.specs.Reads.{shapeAt, readingRefusal, readNext, readsFrom, reads}
+use Rattle.session_file.specs.File.{State, start, fileRefusal, made, saidBy, saidOf}
+use Rattle.session_file.specs.Claims.{standing, madeAll, headersIn, rowsIn, callsIn, IsCourse, FileIsCourse, ClearedInFile}
+use Rattle.session_file.proofs.Reading.{kindRead, passed, read-whole, read-kind}
 
--- ---- one call more: a run's session is what the call answers
-note-session : (r : Run) (s : Session) (c : Call) → note r s c .session ≡ s
-unfolding note
-note-session r s (screen now i side verdict hasId id) = refl
-note-session r s (clear now) = refl
-note-session r s (allocate now n) = refl
-note-session r s (exercise now issuer i q) = refl
-note-session r s (close now caller) = refl
-note-session r s (settle i) = refl
-note-session r s (skip now i reason) = refl
-note-session r s (finish now) = refl
-note-session r s (expire now) = refl
+-- ---- records in the order of their kinds, and records that let the file go on
+abbrev pub InOrder : (before : ℕ) → List Read → Type 0
+InOrder before [] = Unit
+InOrder before (x ∷ l) = (inPlace before (kindRead x) ≡ true) × InOrder (kindRead x) l
 
-advance-session : (r : Run) (c : Call) → advance r c .session ≡ answer (r .session) c .session
-unfolding advance answer
-advance-session r c = go (eqb (refusal (r .session) c) 0)
+abbrev pub Accepted : State → List Read → Type 0
+Accepted f [] = Unit
+Accepted f (x ∷ l) = (fileRefusal f x ≡ 0) × Accepted (made f x) l
+
+-- the standing records of a file are both
+accepted-standing : (f : State) (l : List Read) → Accepted f (standing f l)
+accepted-standing f [] = tt
+accepted-standing f (x ∷ l) = go (accepted-standing (made f x) l) (eqb (fileRefusal f x) 0) refl
   where
-    go : (t : Bool) → cond t (note r (effect (r .session) c) c) r .session
-        ≡ cond t (record { refusal = 0; session = effect (r .session) c; events = packed (events (r .session) c) }) (refusedBy (r .session) (refusal (r .session) c)) .session
-    go true = note-session r (effect (r .session) c) c
-    go false = refl
+    go : Accepted (made f x) (standing (made f x) l) → (t : Bool) → eqb (fileRefusal f x) 0 ≡ t → Accepted f (cond t (x ∷ standing (made f x) l) [])
+    go h true e = (eqb-true (fileRefusal f x) 0 e, h)
+    go h false e = tt
 
-run-more : (r : Run) (l : List Call) (c : Call) → run r (l ++ (c ∷ [])) .session ≡ answer (run r l .session) c .session
-run-more r [] c = advance-session r c
-run-more r (d ∷ l) c = run-more (advance r d) l c
+ordered-standing : (n before : ℕ) (rest : List ℕ) (f : State) → InOrder before (standing f (readsFrom n before rest))
+unfolding readsFrom
+ordered-standing zero before rest f = tt
+ordered-standing (suc n) before rest f =
+    go (λ (g : State). ordered-standing n (shapeAt rest .kind) (drop (shapeAt rest .width) rest) g) (ltb 0 (length rest)) (eqb (fileRefusal f x) 0) refl
+  where
+    x : Read
+    x = readNext before rest
 
--- ---- one order more: an opening with it
+    later : List Read
+    later = readsFrom n (shapeAt rest .kind) (drop (shapeAt rest .width) rest)
+
+    go : ((g : State) → InOrder (shapeAt rest .kind) (standing g later)) → (u t : Bool) → eqb (fileRefusal f x) 0 ≡ t
+        → InOrder before (standing f (cond u (x ∷ cond (eqb (readingRefusal before rest) 0) later []) []))
+    go h false t e = tt
+    go h true false e = rw e tt
+    go h true true e =
+        let z : readingRefusal before rest ≡ 0 = read-whole before rest f (eqb-true (fileRefusal f x) 0 e) in
+        let q : kindRead x ≡ shapeAt rest .kind = read-kind before rest z in
+        rw (e, eq-eqb (readingRefusal before rest) 0 z) (
+          ap (inPlace before) q ∙ passed before rest z .placed,
+          subst (λ (k : ℕ). InOrder k (standing (made f x) later)) (sym q) (h (made f x)),
+        )
+
+-- parts of such lists
+first-in-order : (before : ℕ) (l m : List Read) → InOrder before (l ++ m) → InOrder before l
+first-in-order before [] m h = tt
+first-in-order before (x ∷ l) m h = (h .0, first-in-order (kindRead x) l m (h .1))
+
+rest-in-order : (before : ℕ) (l : List Read) (x : Read) (m : List Read) → InOrder before (l ++ (x ∷ m)) → InOrder (kindRead x) m
+rest-in-order before [] x m h = h .1
+rest-in-order before (y ∷ l) x m h = rest-in-order (kindRead y) l x m (h .1)
+
+first-accepted : (f : State) (l m : List Read) → Accepted f (l ++ m) → Accepted f l
+first-accepted f [] m h = tt
+first-accepted f (x ∷ l) m h = (h .0, first-accepted (made f x) l m (h .1))
+
+next-accepted : (f : State) (l : List Read) (x : Read) (m : List Read) → Accepted f (l ++ (x ∷ m)) → fileRefusal (madeAll f l) x ≡ 0
+next-accepted f [] x m h = h .0
+next-accepted f (y ∷ l) x m h = next-accepted (made f y) l x m (h .1)
+
+-- ---- places: nothing but a header stands first, a header nowhere else, and a record after no later kind
+only-header : (kind : ℕ) → inPlace noKind kind ≡ true → kind ≡ headerKind
+unfolding inPlace
+only-header kind h = go (eqb kind headerKind) refl h
+  where
+    go : (t : Bool) → eqb kind headerKind ≡ t → cond t (eqb noKind noKind) (ltb 0 noKind && leb noKind kind) ≡ true → kind ≡ headerKind
+    go true e h = eqb-true kind headerKind e
+    go false e h = absurd (false≢true h)
+
+header-first : (before : ℕ) → inPlace before headerKind ≡ true → before ≡ noKind
+unfolding inPlace
+header-first before h = eqb-true before noKind h
+
+not-before : (before kind : ℕ) → kind ≢ headerKind → inPlace before kind ≡ true → (0 < before) × (before ≤ kind)
+unfolding inPlace
+not-before before kind d h = go (eqb kind headerKind) refl h
+  where
+    go : (t : Bool) → eqb kind headerKind ≡ t → cond t (eqb before noKind) (ltb 0 before && leb before kind) ≡ true → (0 < before) × (before ≤ kind)
+    go true e h = absurd (d (eqb-true kind headerKind e))
+    go false e h = let b = both (ltb 0 before) (leb before kind) h in (ltb-true 0 before (b .0), leb-true before kind (b .1))
+
+never-refused : (before : ℕ) → inPlace before noKind ≡ true → ⊥
+never-refused before h = omega (arith, not-before before noKind (λ q. omega arith) h)
+
+-- ---- after a call there are only calls
+record OnlyCalls (l : List Read) (f : State) : Type 0 where
+  no-header : headersIn l ≡ []
+  no-row : rowsIn l ≡ []
+  session-is : madeAll f l .session ≡ sessionAfter (f .session) (callsIn l)
+
+only-calls : (f : State) (l : List Read) → InOrder callKind l → OnlyCalls l f
+unfolding made
+only-calls f [] v = record { no-header = refl; no-row = refl; session-is = refl }
+only-calls f (refused n ∷ l) v = absurd (never-refused callKind (v .0))
+only-calls f (header p g ∷ l) v = absurd (omega (arith, header-first callKind (v .0)))
+only-calls f (order row ∷ l) v = absurd (omega (arith, not-before callKind orderKind (λ q. omega arith) (v .0)))
+only-calls f (call c ∷ l) v =
+    let r = only-calls (made f (call c)) l (v .1) in
+    record { no-header = r .no-header; no-row = r .no-row; session-is = r .session-is }
+
+-- ---- orders, then calls
 rows-more : (s : Session) (rows : List Row) (row : Row) → withRows s (rows ++ (row ∷ [])) ≡ withOrder (withRows s rows) row
 rows-more s [] row = refl
 rows-more s (x ∷ rows) row = rows-more (withOrder s x) rows row
@@ -57,6 +137,7 @@ accepted-more : (s : Session) (rows : List Row) (row : Row) → RowsAccepted s r
 accepted-more s [] row a z = (z, tt)
 accepted-more s (x ∷ rows) row a z = (a .0, accepted-more (withOrder s x) rows row (a .1) z)
 
+-- an opening with one order more
 abbrev more : (o : Opening) (row : Row) → orderRefusal (opened o) row ≡ 0 → Opening
 more o row z =
     record {
@@ -67,83 +148,128 @@ more o row z =
       rows-accepted = accepted-more (fresh (o .params) (o .given)) (o .rows) row (o .rows-accepted) z;
     }
 
-more-opens : {s : List ℕ} {rows : List Row} (o : Opening) (row : Row) (z : orderRefusal (opened o) row ≡ 0) → Opens s rows o → Opens s (rows ++ (row ∷ [])) (more o row z)
-more-opens o row z h = record { params = h .params; given = h .given; rows-are = ap (λ (l : List Row). l ++ (row ∷ [])) (h .rows-are) }
+-- what follows an opening whose header and rows stand before
+record Follows (o : Opening) (l : List Read) (f : State) : Type 0 where
+  opening : Opening
+  params-are : opening .params ≡ o .params
+  given-are : opening .given ≡ o .given
+  rows-are : opening .rows ≡ o .rows ++ rowsIn l
+  no-header : headersIn l ≡ []
+  session-is : madeAll f l .session ≡ sessionAfter (opened opening) (callsIn l)
 
--- ---- what was read makes the runner go on to place, or stops it at the end
-abbrev next : Runner → (end place : ℕ) → Read → (accepted : Bool) → Runner
-next r end place x accepted = cond accepted (wentOn r place x) (stopped r end (readRefusal (r .session) x)) .runner
+follows : (before : ℕ) (o : Opening) (f : State) (l : List Read) → f .session ≡ opened o → 0 < before → InOrder before l → Accepted f l → Follows o l f
+unfolding made fileRefusal
+follows before o f [] e h v a =
+    record { opening = o; params-are = refl; given-are = refl; rows-are = sym (append-nil (o .rows)); no-header = refl; session-is = e }
+follows before o f (refused n ∷ l) e h v a = absurd (never-refused before (v .0))
+follows before o f (header p g ∷ l) e h v a = absurd (omega (arith, header-first before (v .0)))
+follows before o f (order row ∷ l) e h v a =
+    let z : orderRefusal (opened o) row ≡ 0 = subst (λ (s : Session). orderRefusal s row ≡ 0) e (a .0) in
+    let e′ : withOrder (f .session) row ≡ opened (more o row z) =
+    ap (λ (s : Session). withOrder s row) e ∙ sym (rows-more (fresh (o .params) (o .given)) (o .rows) row) in
+    let r = follows orderKind (more o row z) (made f (order row)) l e′ (omega arith) (v .1) (a .1) in
+    record {
+      opening = r .opening;
+      params-are = r .params-are;
+      given-are = r .given-are;
+      rows-are = r .rows-are ∙ append-assoc (o .rows) (row ∷ []) (rowsIn l);
+      no-header = r .no-header;
+      session-is = r .session-is;
+    }
+follows before o f (call c ∷ l) e h v a =
+    let r = only-calls (made f (call c)) l (v .1) in
+    record {
+      opening = o;
+      params-are = refl;
+      given-are = refl;
+      rows-are = sym (append-nil (o .rows)) ∙ ap (λ (x : List Row). o .rows ++ x) (sym (r .no-row));
+      no-header = r .no-header;
+      session-is = r .session-is ∙ ap (λ (s : Session). sessionAfter (answer s c .session) (callsIn l)) e;
+    }
 
-module _ (s : List ℕ) (r : Runner) (end place : ℕ) (rows : List Row) (calls : List Call) where
-  stays : Standing s r rows calls → Standing s (stopped r end 0 .runner) (rows ++ []) (calls ++ [])
-  stays (unopened a b d) = rw (append-nil, append-nil) (unopened a b d)
-  stays (ordering o h a b d) = rw (append-nil, append-nil) (ordering o h a b d)
-  stays (calling o h a b) = rw (append-nil, append-nil) (calling o h a b)
+-- ---- from the start
+course-from : (l : List Read) → InOrder noKind l → Accepted start l → (l ≡ []) ⊎ IsCourse l (madeAll start l)
+unfolding made fileRefusal
+course-from [] v a = inl refl
+course-from (refused n ∷ l) v a = absurd (never-refused noKind (v .0))
+course-from (header p g ∷ l) v a =
+    let o : Opening = record { params = p; given = g; rows = []; header-accepted = a .0; rows-accepted = tt } in
+    let r = follows headerKind o (made start (header p g)) l refl (omega arith) (v .1) (a .1) in
+    inr (record {
+      opening = r .opening;
+      header-is = λ i. record { params = sym (r .params-are) i; given = sym (r .given-are) i } ∷ r .no-header i;
+      rows-are = sym (r .rows-are);
+      session-is = r .session-is ∙ sym (run-is-answers (opened (r .opening)) (callsIn l));
+    })
+course-from (order row ∷ l) v a = absurd (omega (arith, only-header orderKind (v .0)))
+course-from (call c ∷ l) v a = absurd (omega (arith, only-header callKind (v .0)))
 
-  calls-on : (o : Opening) (c : Call) → Opens s rows o → r .session ≡ run (begin (opened o)) calls .session → Standing s (wentOn r place (call c) .runner) (rows ++ []) (calls ++ (c ∷ []))
-  calls-on o c h is = rw append-nil (calling o h refl (ap (λ (x : Session). answer x c .session) is ∙ sym (run-more (begin (opened o)) calls c)))
+module _ (s : List ℕ) (l k : List Read) (e : standing start (reads s) ≡ l ++ k) where
+  file-in-order : InOrder noKind (l ++ k)
+  file-in-order = subst (InOrder noKind) e (ordered-standing (length s) noKind s start)
 
-  -- the header is the file's first record
-  steps : Standing s r rows calls → (r .stage ≡ 0 → r .at ≡ 0) → (x : Read) → Stands (drop (r .at) s) (r .stage) x → (t : Bool) → eqb (readRefusal (r .session) x) 0 ≡ t
-      → Standing s (next r end place x t) (rows ++ rowIn (r .session) x) (calls ++ callIn x)
-  unfolding readRefusal rowIn callIn
-  steps v first (refused n) h true e = absurd (h (eqb-true n 0 e))
-  steps v first (refused n) h false e = stays v
-  steps (unopened a b d) first (header p g) h true e =
-      let o : Opening = record { params = p; given = g; rows = []; header-accepted = eqb-true (headerRefusal p g) 0 e; rows-accepted = tt } in
-      rw (append-nil, append-nil) (ordering o (record { params = rw (first a) at (h .1); given = rw (first a) at (h .2); rows-are = sym b }) refl refl d)
-  steps (ordering o i a b d) first (header p g) h true e = absurd (omega (arith, h .0))
-  steps (calling o i a b) first (header p g) h true e = absurd (omega (arith, h .0))
-  steps v first (header p g) h false e = stays v
-  steps (unopened a b d) first (order row) h true e = absurd (omega arith)
-  steps (ordering o i a b d) first (order row) h true e =
-      let z : orderRefusal (opened o) row ≡ 0 = rw b at (eqb-true (orderRefusal (r .session) row) 0 e) in
-      rw (e, append-nil)
-      (ordering (more o row z) (more-opens o row z i) refl (ap (λ (x : Session). withOrder x row) b ∙ sym (rows-more (fresh (o .params) (o .given)) (o .rows) row)) d)
-  steps (calling o i a b) first (order row) h true e = absurd (omega arith)
-  steps v first (order row) h false e = rw e (stays v)
-  steps (unopened a b d) first (call c) h true e = absurd (omega arith)
-  steps (ordering o i a b d) first (call c) h true e = rw e (calls-on o c i (b ∙ ap (λ (l : List Call). run (begin (opened o)) l .session) (sym d)))
-  steps (calling o i a b) first (call c) h true e = rw e (calls-on o c i b)
-  steps v first (call c) h false e = rw e (stays v)
-
--- ---- while no header is accepted, a runner with bytes left is at the first
-abbrev First : List ℕ → Runner → Type 0
-First s r = r .stage ≡ 0 → r .at < length s → r .at ≡ 0
-
-first-next : (s : List ℕ) (r : Runner) (place : ℕ) (x : Read) → Stands (drop (r .at) s) (r .stage) x → (t : Bool) → eqb (readRefusal (r .session) x) 0 ≡ t
-    → First s (next r (length s) place x t)
-unfolding readRefusal
-first-next s r place (refused n) h true e = absurd (h (eqb-true n 0 e))
-first-next s r place (header p g) h true e = λ z l. absurd (omega arith)
-first-next s r place (order row) h true e = λ z l. absurd (omega arith)
-first-next s r place (call c) h true e = λ z l. absurd (omega arith)
-first-next s r place x h false e = λ z l. absurd (omega arith)
-
--- ---- the claim
-module _ (s : List ℕ) (r : Runner) where
-  abbrev place : ℕ
-  place = r .at + widthOf (markAt (drop (r .at) s))
-
-  file-first : (t : Bool) → First s r → First s (cond t (turnAt s r .runner) r)
-  unfolding turnAt took
-  file-first true f = first-next s r place (readAt s r) (read-stands (drop (r .at) s) (r .stage)) (eqb (readRefusal (r .session) (readAt s r)) 0) refl
-  file-first false f = f
-
-  file-next : (rows : List Row) (calls : List Call) → First s r → Standing s r rows calls → (t : Bool) → ltb (r .at) (length s) ≡ t
-      → Standing s (cond t (turnAt s r .runner) r) (rows ++ cond t (rowIn (r .session) (readAt s r)) []) (calls ++ cond t (callIn (readAt s r)) [])
-  unfolding turnAt took
-  file-next rows calls f v true e =
-      steps s r (length s) place rows calls v (λ z. f z (ltb-true _ _ e)) (readAt s r) (read-stands (drop (r .at) s) (r .stage)) (eqb (readRefusal (r .session) (readAt s r)) 0) refl
-  file-next rows calls f v false e = rw (append-nil, append-nil) v
-
-first-at : (s : List ℕ) (n : ℕ) → First s (runnerAt s n)
-unfolding runnerAt start
-first-at s zero = λ z l. refl
-first-at s (suc n) = file-first s (runnerAt s n) (ltb (runnerAt s n .at) (length s)) (first-at s n)
+  file-accepted : Accepted start (l ++ k)
+  file-accepted = subst (Accepted start) e (accepted-standing start (reads s))
 
 pub file-is-course : FileIsCourse
-unfolding runnerAt rowsIn callsIn start
-file-is-course s zero = unopened refl refl refl
-file-is-course s (suc n) =
-    file-next s (runnerAt s n) (rowsIn s n) (callsIn s n) (first-at s n) (file-is-course s n) (ltb (runnerAt s n .at) (length s)) refl
+file-is-course s l k e = course-from l (first-in-order noKind l k (file-in-order s l k e)) (first-accepted start l k (file-accepted s l k e))
+
+-- before a call there is an opening
+pub before-call : (s : List ℕ) (l k : List Read) (c : Call) → standing start (reads s) ≡ l ++ (call c ∷ k) → IsCourse l (madeAll start l)
+before-call s l k c e =
+    ⊎-elim
+    (λ (n : l ≡ []). absurd (omega (arith, only-header callKind (subst (λ (m : List Read). InOrder noKind (m ++ (call c ∷ k))) n (file-in-order s l (call c ∷ k) e) .0))))
+    (λ (o : IsCourse l (madeAll start l)). o)
+    (file-is-course s l (call c ∷ k) e)
+
+-- ---- a clear with a `clear` line
+-- what is said of a record that lets the file go on
+pub said-on : (f : State) (x : Read) → fileRefusal f x ≡ 0 → saidOf f x ≡ saidBy f x
+unfolding saidOf
+said-on f x z = rw (eq-eqb (fileRefusal f x) 0 z)
+
+-- a call with a `clear` line is accepted
+clear-accepted : (f : State) (c : Call) (price volume reserve reference : ℕ) (others : List Event) → saidBy f (call c) ≡ Cleared price volume reserve reference ∷ others
+    → (refusal (f .session) c ≡ 0) × (events (f .session) c ≡ Cleared price volume reserve reference ∷ others)
+unfolding saidBy
+clear-accepted f c price volume reserve reference others = go (eqb (refusal (f .session) c) 0) refl
+  where
+    go : (t : Bool) → eqb (refusal (f .session) c) 0 ≡ t
+        → cond t (events (f .session) c) (Refused (refusal (f .session) c) ∷ []) ≡ Cleared price volume reserve reference ∷ others
+        → (refusal (f .session) c ≡ 0) × (events (f .session) c ≡ Cleared price volume reserve reference ∷ others)
+    go true h q = (eqb-true (refusal (f .session) c) 0 h, q)
+    go false h q = (cc, cc)
+
+answer-accepted : (s : Session) (c : Call) → refusal s c ≡ 0 → answer s c .session ≡ effect s c
+unfolding answer
+answer-accepted s c z = rw (eq-eqb (refusal s c) 0 z)
+
+cleared-from : (l : List Read) (f : State) → IsCourse l f → (now : ℤ) (price volume reserve reference : ℕ) (others : List Event)
+    → saidBy f (call (clear now)) ≡ Cleared price volume reserve reference ∷ others → JustCleared (made f (call (clear now)) .session)
+unfolding made
+cleared-from l f o now price volume reserve reference others q =
+    let a = clear-accepted f (clear now) price volume reserve reference others q in
+    record {
+      opening = o .opening;
+      calls = callsIn l;
+      now = now;
+      accepted = subst (λ (s : Session). refusal s (clear now) ≡ 0) (o .session-is) (a .0);
+      price = price;
+      volume = volume;
+      reserve = reserve;
+      reference = reference;
+      others = others;
+      line = subst (λ (s : Session). events s (clear now) ≡ Cleared price volume reserve reference ∷ others) (o .session-is) (a .1);
+      is = answer-accepted (f .session) (clear now) (a .0) ∙ ap (λ (s : Session). effect s (clear now)) (o .session-is);
+    }
+
+pub cleared-in-file : ClearedInFile
+cleared-in-file s l k now price volume reserve reference others e q =
+    let f : State = madeAll start l in
+    let x : Read = call (clear now) in
+    let z : fileRefusal f x ≡ 0 = next-accepted start l x k (file-accepted s l (x ∷ k) e) in
+    let v : InOrder callKind k = rest-in-order noKind l x k (file-in-order s l (x ∷ k) e) in
+    record {
+      just-cleared = cleared-from l f (before-call s l k (clear now) e) now price volume reserve reference others (sym (said-on f x z) ∙ q);
+      calls-after = λ m n h. only-calls (made f x) m (first-in-order callKind m n (subst (InOrder callKind) h v)) .session-is ∙ sym (run-is-answers (made f x .session) (callsIn m));
+    }

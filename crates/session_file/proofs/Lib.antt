@@ -1,13 +1,13 @@
 -- Laws of a session file.
 pub mod Numbers
 pub mod Marks
-pub mod Sayings
-pub mod Orders
-pub mod Accepted
-pub mod Forward
-pub mod Course
-pub mod Lent
-pub mod Turns
+pub mod Reading
+pub mod Lines
+pub mod FewEvents
 pub mod Stepping
+pub mod Lent
 pub mod Running
+pub mod PartByPart
 pub mod Entry
+pub mod Course
+pub mod Refusals

@@ -8,51 +8,44 @@ use Prim.Native.Nat.{ℕ, zero, suc, _+_, _-_, _<_, _≤_}
 use native.Mathlib.Omega.{arith}
 use lib.Dec.{eqb}
 use lib.ListN.{length, take, drop, length-append, length-drop}
-use borrow.Author.Tests.{lt-ltb, le-ltb, le-leb, lt-leb, eqb-true, eqb-false}
+use borrow.Author.Tests.{le-leb, lt-leb, eqb-true, eqb-false}
 use Rattle.laws.proofs.Tests.{tested}
 use Rattle.listing.specs.declared.Written.{Written}
-use Rattle.listing.specs.Lines.{recordLines, said}
+use Rattle.listing.specs.Lines.{recordLines}
 use Rattle.listing.specs.Writing.{written, Writes, Puts}
 use Rattle.listing.proofs.Spliced.{puts-none, puts-puts}
-use Rattle.session_file.specs.declared.runner.Runner.{Runner}
-use Rattle.session_file.specs.declared.runner.Turn.{Turn}
-use Rattle.session_file.specs.Runner.{start, turnAt}
-use Rattle.session_file.specs.File.{lastLine, listingFrom, maxInput, listing}
+use Rattle.auction_engine.specs.declared.Session.{Session}
+use Rattle.session_file.specs.declared.file.Place.{Place}
+use Rattle.session_file.specs.File.{state, unopened, lastLine, maxInput, listing}
+use Rattle.session_file.specs.Steps.{turnAt}
 use Rattle.session_file.specs.Entry.{Ran}
-use Rattle.session_file.proofs.Forward.{Onward, onward}
+use Rattle.session_file.proofs.Lines.{linesAt, lines-start, lines-end, lines-turn, Onward, onward}
 use Rattle.session_file.proofs.Lent.{fits, longer, lent, to-end, puts-lent, length-lent}
 
--- ---- what is left to list, while bytes are left and where none are
-abbrev nextLines : (number : ℕ) → List ℕ → Runner → List ℕ
-nextLines number s r = recordLines number (said (turnAt s r .said))
+-- ---- what is left to list, while bytes are left
+abbrev nextLines : (number : ℕ) (s : List ℕ) → Place → Session → List ℕ
+nextLines number s p x = recordLines number (turnAt s p x .said)
 
-from-more : (n number : ℕ) (s : List ℕ) (r : Runner) → r .at < length s → length s ≤ r .at + n
-    → (m : ℕ) × (n ≡ suc m) × (listingFrom n number s r ≡ nextLines number s r ++ listingFrom m (number + 1) s (turnAt s r .runner))
-unfolding listingFrom
-from-more zero number s r h e = absurd (omega arith)
-from-more (suc m) number s r h e = (m, refl, rw (lt-ltb (r .at) (length s) h))
+more-left : (n number : ℕ) (s : List ℕ) (p : Place) (x : Session) → p .at < length s → length s ≤ p .at + n
+    → (m : ℕ) × (n ≡ suc m) × (linesAt n number s p x ≡ nextLines number s p x ++ linesAt m (number + 1) s (turnAt s p x .place) (turnAt s p x .session))
+more-left zero number s p x h e = absurd (omega arith)
+more-left (suc m) number s p x h e = (m, refl, lines-turn s p x h m number)
 
-from-none : (n number : ℕ) (s : List ℕ) (r : Runner) → length s ≤ r .at → listingFrom n number s r ≡ lastLine r
-unfolding listingFrom
-from-none zero number s r h = refl
-from-none (suc m) number s r h = rw (le-ltb (r .at) (length s) h)
-
--- ---- a text written so far, up to at; the runner at r; number records read
-pub record Running (s before : List ℕ) (r : Runner) (number at : ℕ) (after : List ℕ) : Type 0 where
+-- ---- a text written so far, up to at; the file at place p with session x; number records read
+pub record Running (s before : List ℕ) (p : Place) (x : Session) (number at : ℕ) (after : List ℕ) : Type 0 where
   pub text : List ℕ
   -- enough for the records that are left
   pub fuel : ℕ
-  pub enough : length s ≤ r .at + fuel
-  pub within : r .at ≤ length s
-  pub count : number ≤ r .at
+  pub enough : length s ≤ p .at + fuel
+  pub within : p .at ≤ length s
+  pub count : number ≤ p .at
   pub same : length after ≡ length before
   pub room : at ≤ length before
   pub puts : Puts text 0 at before after
-  pub left : text ++ listingFrom fuel number s r ≡ listing s
+  pub left : text ++ linesAt fuel number s p x ≡ listing s
 
-pub running-start : (s e : List ℕ) (r : Runner) → length s ≤ maxInput → r ≡ start → Running s e r 0 0 e
-unfolding start listing
-running-start s e r h is = rw is (record {
+pub running-start : (s e : List ℕ) (x : Session) → length s ≤ maxInput → x ≡ unopened → Running s e (record { at = 0; stage = 0 }) x 0 0 e
+running-start s e x h is = rw is (record {
   text = [];
   fuel = length s;
   enough = omega arith;
@@ -61,7 +54,7 @@ running-start s e r h is = rw is (record {
   same = refl;
   room = omega arith;
   puts = puts-none 0 e;
-  left = rw (le-leb (length s) maxInput h);
+  left = lines-start s h;
 })
 
 -- ---- an output with the listing, and one that is too short for it
@@ -75,12 +68,12 @@ ran-long : (s e e′ : List ℕ) (w : Written) → w ≡ record { refusal = 27; 
 unfolding written
 ran-long s e e′ w is h same = record { answer = rw (lt-leb (length (listing s)) (length e) h) is; bytes = λ f. absurd (omega arith); same-length = same }
 
-module _ {s e : List ℕ} {r : Runner} {number at : ℕ} {e′ : List ℕ} (v : Running s e r number at e′) where
-  ends : length s ≤ r .at → v .text ++ lastLine r ≡ listing s
-  ends h = ap (λ (x : List ℕ). v .text ++ x) (sym (from-none (v .fuel) number s r h)) ∙ v .left
+module _ {s e : List ℕ} {p : Place} {x : Session} {number at : ℕ} {e′ : List ℕ} (v : Running s e p x number at e′) where
+  at-end : length s ≤ p .at → v .text ++ lastLine (state (p .stage) x) ≡ listing s
+  at-end h = ap (λ (l : List ℕ). v .text ++ l) (sym (lines-end (v .fuel) number s p x h)) ∙ v .left
 
 -- ---- a writer was lent the part from at on, answered w and left y
-module _ {s e : List ℕ} {r : Runner} {number at : ℕ} {e′ : List ℕ} (v : Running s e r number at e′) (k : ℕ) (kept : k ≡ length e′ - at)
+module _ {s e : List ℕ} {p : Place} {x : Session} {number at : ℕ} {e′ : List ℕ} (v : Running s e p x number at e′) (k : ℕ) (kept : k ≡ length e′ - at)
     (y : List ℕ) (same : length y ≡ length (take k (drop at e′))) where
   pub running-length : length (lent at k e′ y) ≡ length e
   running-length = length-lent at k e′ kept y (omega (arith, v .room, v .same)) same ∙ v .same
@@ -97,75 +90,67 @@ module _ {s e : List ℕ} {r : Runner} {number at : ℕ} {e′ : List ℕ} (v : 
   text-long line d z = omega (arith, v .room, v .same, v .puts .place, rw (to-end at k e′ kept, length-drop) at (longer d z .0))
 
   -- a record's lines are written
-  pub running-more : {w : Written} (t : Turn) → r .at < length s → t ≡ turnAt s r → Writes (recordLines number (said (t .said))) w (take k (drop at e′)) y → w .refusal ≡ 0
-      → Running s e (t .runner) (number + 1) (at + w .len) (lent at k e′ y)
-  running-more {w} t h turn d z =
-      let f = from-more (v .fuel) number s r h (v .enough) in
-      let o = onward s r h in
-      let p = text-more (nextLines number s r) (rw turn at d) z in
-      rw turn (record {
-        text = v .text ++ nextLines number s r;
+  running-more : {w : Written} → p .at < length s → Writes (nextLines number s p x) w (take k (drop at e′)) y → w .refusal ≡ 0
+      → Running s e (turnAt s p x .place) (turnAt s p x .session) (number + 1) (at + w .len) (lent at k e′ y)
+  running-more {w} h d z =
+      let f = more-left (v .fuel) number s p x h (v .enough) in
+      let o = onward s p x h in
+      let q = text-more (nextLines number s p x) d z in
+      record {
+        text = v .text ++ nextLines number s p x;
         fuel = f .0;
         enough = omega (arith, v .enough, f .1, o .on);
         within = o .within;
         count = omega (arith, o .on, v .count);
         same = running-length;
-        room = p .0;
-        puts = p .1;
-        left = append-assoc (v .text) (nextLines number s r) _ ∙ (ap (λ (x : List ℕ). v .text ++ x) (sym (f .2)) ∙ v .left);
-      })
+        room = q .0;
+        puts = q .1;
+        left = append-assoc (v .text) (nextLines number s p x) _ ∙ (ap (λ (l : List ℕ). v .text ++ l) (sym (f .2)) ∙ v .left);
+      }
 
   -- they do not fit: then the listing does not
-  pub running-long : {w : Written} (t : Turn) → r .at < length s → t ≡ turnAt s r → Writes (recordLines number (said (t .said))) w (take k (drop at e′)) y → w .refusal ≢ 0
-      → Ran s w e (lent at k e′ y)
-  running-long {w} t h turn d z =
-      let f = from-more (v .fuel) number s r h (v .enough) in
-      let g = rw turn at d in
-      let n = ap length (ap (λ (x : List ℕ). v .text ++ x) (sym (f .2)) ∙ v .left) in
-      ran-long s e (lent at k e′ y) w (longer g z .1) (omega (arith, text-long (nextLines number s r) g z, simp length-append at n)) running-length
+  running-long : {w : Written} → p .at < length s → Writes (nextLines number s p x) w (take k (drop at e′)) y → w .refusal ≢ 0 → Ran s w e (lent at k e′ y)
+  running-long {w} h d z =
+      let f = more-left (v .fuel) number s p x h (v .enough) in
+      let n = ap length (ap (λ (l : List ℕ). v .text ++ l) (sym (f .2)) ∙ v .left) in
+      ran-long s e (lent at k e′ y) w (longer d z .1) (omega (arith, text-long (nextLines number s p x) d z, simp length-append at n)) running-length
 
   -- the last line is written, or does not fit
-  pub running-end : {w : Written} → length s ≤ r .at → Writes (lastLine r) w (take k (drop at e′)) y → w .refusal ≡ 0
+  running-end : {w : Written} → length s ≤ p .at → Writes (lastLine (state (p .stage) x)) w (take k (drop at e′)) y → w .refusal ≡ 0
       → (at + w .len ≤ length e) × Ran s (record { refusal = 0; len = at + w .len }) e (lent at k e′ y)
   running-end {w} h d z =
-      let p = text-more (lastLine r) d z in
-      (p .0, ran-fits s e (lent at k e′ y) (at + w .len) (p .0) running-length (rw (ends v h) at (p .1)))
+      let q = text-more (lastLine (state (p .stage) x)) d z in
+      (q .0, ran-fits s e (lent at k e′ y) (at + w .len) (q .0) running-length (rw (at-end v h) at (q .1)))
 
-  pub running-over : {w : Written} → length s ≤ r .at → Writes (lastLine r) w (take k (drop at e′)) y → w .refusal ≢ 0 → Ran s w e (lent at k e′ y)
+  running-over : {w : Written} → length s ≤ p .at → Writes (lastLine (state (p .stage) x)) w (take k (drop at e′)) y → w .refusal ≢ 0 → Ran s w e (lent at k e′ y)
   running-over {w} h d z =
-      let n = ap length (ends v h) in
-      ran-long s e (lent at k e′ y) w (longer d z .1) (omega (arith, text-long (lastLine r) d z, simp length-append at n)) running-length
+      let n = ap length (at-end v h) in
+      ran-long s e (lent at k e′ y) w (longer d z .1) (omega (arith, text-long (lastLine (state (p .stage) x)) d z, simp length-append at n)) running-length
 
   -- by the answer
-  pub running-last : {w : Written} → length s ≤ r .at → Writes (lastLine r) w (take k (drop at e′)) y
+  pub running-last : {w : Written} → length s ≤ p .at → Writes (lastLine (state (p .stage) x)) w (take k (drop at e′)) y
       → (at + w .len ≤ length e) × Ran s (cond (eqb (w .refusal) 0) (record { refusal = 0; len = at + w .len }) w) e (lent at k e′ y)
   running-last {w} h d =
       ⊎-elim (λ (t : eqb (w .refusal) 0 ≡ true). rw t (running-end h d (eqb-true (w .refusal) 0 t)))
       (λ (t : eqb (w .refusal) 0 ≡ false).
       let z = eqb-false (w .refusal) 0 t in
-      rw t (omega (arith, v .room, ap (λ (x : Written). x .len) (longer d z .1)), running-over h d z))
+      rw t (omega (arith, v .room, ap (λ (a : Written). a .len) (longer d z .1)), running-over h d z))
       (tested (eqb (w .refusal) 0))
 
--- ---- a record from runner r to r′: what was said of it was written after at, and w was answered
-pub record Wrote (s e′ : List ℕ) (r r′ : Runner) (number at : ℕ) (w : Written) (e″ : List ℕ) : Type 0 where
-  pub turn : Turn
-  pub is-turn : turn ≡ turnAt s r
-  pub runs : turn .runner ≡ r′
+-- ---- the record at p with session x: the session after it, what was said of it was written after at, and w was answered
+pub record Wrote (s e′ : List ℕ) (p : Place) (x x′ : Session) (number at : ℕ) (w : Written) (e″ : List ℕ) : Type 0 where
+  pub runs : x′ ≡ turnAt s p x .session
   pub part : List ℕ
   pub same-part : length part ≡ length (take (length e′ - at) (drop at e′))
-  pub writes : Writes (recordLines number (said (turn .said))) w (take (length e′ - at) (drop at e′)) part
+  pub writes : Writes (recordLines number (turnAt s p x .said)) w (take (length e′ - at) (drop at e′)) part
   pub left : e″ ≡ lent at (length e′ - at) e′ part
 
-module _ {s e e′ e″ : List ℕ} {r r′ : Runner} {number at : ℕ} {w : Written} (v : Running s e r number at e′) (d : Wrote s e′ r r′ number at w e″) where
+module _ {s e e′ e″ : List ℕ} {p : Place} {x x′ : Session} {number at : ℕ} {w : Written} (v : Running s e p x number at e′) (d : Wrote s e′ p x x′ number at w e″) where
   pub wrote-length : length e″ ≡ length e
   wrote-length = rw (d .left) (running-length v (length e′ - at) refl (d .part) (d .same-part))
 
-  pub wrote-more : r .at < length s → w .refusal ≡ 0 → Running s e r′ (number + 1) (at + w .len) e″
-  wrote-more h z = rw (d .left, ← (d .runs)) (running-more v (length e′ - at) refl (d .part) (d .same-part) (d .turn) h (d .is-turn) (d .writes) z)
+  pub wrote-more : p .at < length s → w .refusal ≡ 0 → (p′ : Place) → p′ ≡ turnAt s p x .place → Running s e p′ x′ (number + 1) (at + w .len) e″
+  wrote-more h z p′ is = rw (d .left, d .runs, is) (running-more v (length e′ - at) refl (d .part) (d .same-part) h (d .writes) z)
 
-  pub wrote-long : r .at < length s → w .refusal ≢ 0 → Ran s w e e″
-  wrote-long h z = rw (d .left) (running-long v (length e′ - at) refl (d .part) (d .same-part) (d .turn) h (d .is-turn) (d .writes) z)
-
-  -- the runner goes forward
-  pub wrote-onward : r .at < length s → Onward s r r′
-  wrote-onward h = rw (← (d .runs), d .is-turn) (onward s r h)
+  pub wrote-long : p .at < length s → w .refusal ≢ 0 → Ran s w e e″
+  wrote-long h z = rw (d .left) (running-long v (length e′ - at) refl (d .part) (d .same-part) h (d .writes) z)

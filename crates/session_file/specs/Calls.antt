@@ -1,12 +1,17 @@
--- What the reader of calls answers: the call record that says what the bytes say.
+-- The struct of a record's fields, and the call record that says what a call says.
 use mathlib.Core.Bool.{Bool, false}
 use mathlib.Core.List.{List}
 use Prim.Native.Nat.{ℕ}
 use lib.IntN.{ℤ, pos}
 use Rattle.book.specs.Book.{noInvestor, noWallet}
+use Rattle.book.specs.declared.Params.{Params}
+use Rattle.book.specs.declared.Given.{Given}
+use Rattle.book.specs.declared.Row.{Row}
 use Rattle.auction_engine.specs.Call.{Call, screen, clear, allocate, exercise, close, settle, skip, finish, expire}
 use Rattle.auction_engine.specs.declared.CallRecord.{CallRecord}
-use Rattle.session_file.specs.Records.{Read, refused, header, order, call}
+use Rattle.session_file.specs.declared.fields.Fields.{Fields}
+use Rattle.session_file.specs.Marks.{noKind, headerKind, orderKind, callKind}
+use Rattle.session_file.specs.Fields.{Read, refused, header, order, call}
 
 -- a call record, place by place
 abbrev pub filled : (kind : ℕ) (now : ℤ) (order side verdict : ℕ) (hasId : Bool) (id : List ℕ) (allowance : ℕ) (wallet : List ℕ) (fill qty reason : ℕ) → CallRecord
@@ -42,9 +47,33 @@ recordOf (skip now i reason) = filled 6 now 0 0 0 false noInvestor 0 noWallet i 
 recordOf (finish now) = blankCall 7 now
 recordOf (expire now) = blankCall 8 now
 
--- of a call, its record; of anything else, the blank one
-abbrev pub callRead : Read → CallRecord
-callRead (refused number) = blankCall 0 (pos 0)
-callRead (header p g) = blankCall 0 (pos 0)
-callRead (order row) = blankCall 0 (pos 0)
-callRead (call c) = recordOf c
+-- the blank fields of each kind
+abbrev pub blankParams : Params
+blankParams =
+    record { «reveal_end» = pos 0; «rofr_window» = pos 0; «settle_deadline» = pos 0; «max_cash» = 0; «min_reveals» = 0; forced = false; «rofr_authority» = noWallet }
+
+abbrev pub blankGiven : Given
+blankGiven = record { mark = false; reserve = 0; reference = 0; policy = 0; «band_bps» = 0 }
+
+abbrev pub blankRow : Row
+blankRow = record { owner = noWallet; side = 0; escrowed = 0; revealed = false; limit = 0; qty = 0 }
+
+-- the struct of a record's fields, by its kind
+abbrev pub noFields : Fields
+noFields = record { kind = noKind; params = blankParams; given = blankGiven; row = blankRow; call = blankCall 0 (pos 0) }
+
+abbrev pub headerFields : Params → Given → Fields
+headerFields p g = record { kind = headerKind; params = p; given = g; row = blankRow; call = blankCall 0 (pos 0) }
+
+abbrev pub orderFields : Row → Fields
+orderFields r = record { kind = orderKind; params = blankParams; given = blankGiven; row = r; call = blankCall 0 (pos 0) }
+
+abbrev pub callFields : CallRecord → Fields
+callFields c = record { kind = callKind; params = blankParams; given = blankGiven; row = blankRow; call = c }
+
+-- the struct of what was read; of a refusal, the blank one
+abbrev pub fieldsIn : Read → Fields
+fieldsIn (refused number) = noFields
+fieldsIn (header p g) = headerFields p g
+fieldsIn (order row) = orderFields row
+fieldsIn (call c) = callFields (recordOf c)

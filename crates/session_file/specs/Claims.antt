@@ -1,62 +1,96 @@
--- What ties a file to demand 3: proofs/Course.antt.
+-- What ties a file to demand 3, and its refusals to their places: proofs/Course.antt, proofs/Refusals.antt.
 use mathlib.Core.Path.{_≡_}
-use mathlib.Core.Bool.{Bool, cond}
+use mathlib.Core.Logic.{_⊎_}
+use mathlib.Core.Bool.{cond}
 use mathlib.Core.List.{List, [], _∷_, _++_}
-use Prim.Native.Nat.{ℕ, zero, suc}
-use lib.Dec.{ltb, eqb}
-use lib.ListN.{length}
+use Prim.Native.Nat.{ℕ}
+use lib.Dec.{eqb}
+use lib.IntN.{ℤ}
+use Rattle.laws.specs.Lists.{Member}
+use Rattle.book.specs.declared.Params.{Params}
+use Rattle.book.specs.declared.Given.{Given}
 use Rattle.book.specs.declared.Row.{Row}
+use Rattle.events.specs.declared.Event.{Event}
+use Rattle.events.specs.declared.Event.the-variants.{Cleared, Refused}
 use Rattle.auction_engine.specs.declared.Session.{Session}
-use Rattle.auction_engine.specs.Call.{Call, argumentsRefusal}
-use Rattle.auction_engine.specs.Opening.{Opening, orderRefusal}
-use Rattle.auction_engine.specs.Opening as opening
-use Rattle.course.specs.Course.{begin, run}
-use Rattle.session_file.specs.declared.runner.Runner.{Runner}
-use Rattle.session_file.specs.Records.{Read, refused, header, order, call, paramsOf, givenOf}
-use Rattle.session_file.specs.Runner.{start, readAt, turnAt}
+use Rattle.auction_engine.specs.Call.{Call, clear, argumentsRefusal}
+use Rattle.auction_engine.specs.Opening.{Opening, opened}
+use Rattle.course.specs.Demand3.{after, JustCleared}
+use Rattle.course.specs.Refusals.{numbersOf}
+use Rattle.session_file.specs.Fields.{Read, refused, header, order, call}
+use Rattle.session_file.specs.Reads.{reads}
+use Rattle.session_file.specs.File.{State, start, fileRefusal, made, saidOf}
 
--- the runner after n records of a file, or at its end
-unfoldable pub runnerAt : List ℕ → (n : ℕ) → Runner
-runnerAt s zero = start
-runnerAt s (suc n) = cond (ltb (runnerAt s n .at) (length s)) (turnAt s (runnerAt s n) .runner) (runnerAt s n)
+-- the records before the one that ends the file
+abbrev pub standing : State → List Read → List Read
+standing f [] = []
+standing f (x ∷ l) = cond (eqb (fileRefusal f x) 0) (x ∷ standing (made f x) l) []
 
--- the order in a record, if it is accepted
-unfoldable pub rowIn : Session → Read → List Row
-rowIn s (refused number) = []
-rowIn s (header p g) = []
-rowIn s (order row) = cond (eqb (orderRefusal s row) 0) (row ∷ []) []
-rowIn s (call c) = []
+-- what a file carries on after records that let it go on
+abbrev pub madeAll : State → List Read → State
+madeAll f [] = f
+madeAll f (x ∷ l) = madeAll (made f x) l
 
--- the orders among the first n records
-unfoldable pub rowsIn : List ℕ → (n : ℕ) → List Row
-rowsIn s zero = []
-rowsIn s (suc n) = rowsIn s n ++ cond (ltb (runnerAt s n .at) (length s)) (rowIn (runnerAt s n .session) (readAt s (runnerAt s n))) []
+-- a header's fields
+pub record Header : Type 0 where
+  pub params : Params
+  pub given : Given
 
--- the call in a record, if its arguments are accepted
-unfoldable pub callIn : Read → List Call
-callIn (refused number) = []
-callIn (header p g) = []
-callIn (order row) = []
-callIn (call c) = cond (eqb (argumentsRefusal c) 0) (c ∷ []) []
+-- the headers, the orders and the calls among records
+abbrev pub headersIn : List Read → List Header
+headersIn [] = []
+headersIn (refused number ∷ l) = headersIn l
+headersIn (header p g ∷ l) = record { params = p; given = g } ∷ headersIn l
+headersIn (order row ∷ l) = headersIn l
+headersIn (call c ∷ l) = headersIn l
 
--- the calls among the first n records
-unfoldable pub callsIn : List ℕ → (n : ℕ) → List Call
-callsIn s zero = []
-callsIn s (suc n) = callsIn s n ++ cond (ltb (runnerAt s n .at) (length s)) (callIn (readAt s (runnerAt s n))) []
+abbrev pub rowsIn : List Read → List Row
+rowsIn [] = []
+rowsIn (refused number ∷ l) = rowsIn l
+rowsIn (header p g ∷ l) = rowsIn l
+rowsIn (order row ∷ l) = row ∷ rowsIn l
+rowsIn (call c ∷ l) = rowsIn l
 
--- an opening with the file's header and these orders
-pub record Opens (s : List ℕ) (rows : List Row) (o : Opening) : Type 0 where
-  pub params : o .params ≡ paramsOf s
-  pub given : o .given ≡ givenOf s
-  pub rows-are : o .rows ≡ rows
+abbrev pub callsIn : List Read → List Call
+callsIn [] = []
+callsIn (refused number ∷ l) = callsIn l
+callsIn (header p g ∷ l) = callsIn l
+callsIn (order row ∷ l) = callsIn l
+callsIn (call c ∷ l) = c ∷ callsIn l
 
--- where a file stands after orders and calls: before a header, among the orders, or among the calls
-pub data Standing (s : List ℕ) (r : Runner) (rows : List Row) (calls : List Call) : Type 0 where
-  unopened : r .stage ≡ 0 → rows ≡ [] → calls ≡ [] → Standing s r rows calls
-  ordering : (o : Opening) → Opens s rows o → r .stage ≡ 1 → r .session ≡ opening.opened o → calls ≡ [] → Standing s r rows calls
-  calling : (o : Opening) → Opens s rows o → r .stage ≡ 2 → r .session ≡ run (begin (opening.opened o)) calls .session → Standing s r rows calls
+-- records are a course to f: one header and orders that are an opening of demand 3, and its session is what `run` makes of the calls from there
+pub record IsCourse (l : List Read) (f : State) : Type 0 where
+  pub opening : Opening
+  pub header-is : headersIn l ≡ record { params = opening .params; given = opening .given } ∷ []
+  pub rows-are : rowsIn l ≡ opening .rows
+  pub session-is : f .session ≡ after (opened opening) (callsIn l) .session
 
--- a file's header and orders are an opening that demand 3 starts from, and the sessions between its records are those that `run` makes of its
--- calls from there
+-- the records of a file up to any that lets it go on, if any, are a course
 abbrev pub FileIsCourse : Type 0
-FileIsCourse = (s : List ℕ) (n : ℕ) → Standing s (runnerAt s n) (rowsIn s n) (callsIn s n)
+FileIsCourse = (s : List ℕ) (l k : List Read) → standing start (reads s) ≡ l ++ k → (l ≡ []) ⊎ IsCourse l (madeAll start l)
+
+-- 'is just cleared when a clear hands it back with a `clear` line': from there the calls of the file are a list that demand 3 speaks of
+pub record StartsDemand3 (f : State) (k : List Read) : Type 0 where
+  pub just-cleared : JustCleared (f .session)
+  pub calls-after : (m n : List Read) → k ≡ m ++ n → madeAll f m .session ≡ after (f .session) (callsIn m) .session
+
+abbrev pub ClearedInFile : Type 0
+ClearedInFile =
+    (s : List ℕ) (l k : List Read) (now : ℤ) (price volume reserve reference : ℕ) (others : List Event)
+    → standing start (reads s) ≡ l ++ (call (clear now) ∷ k)
+    → saidOf (madeAll start l) (call (clear now)) ≡ Cleared price volume reserve reference ∷ others
+    → StartsDemand3 (made (madeAll start l) (call (clear now))) k
+
+-- the numbers of a record's place: 'Each record'; `SH`; `OR`; of a call 4 where its own arguments are outside their values, else its row. No file
+-- comes to 9
+abbrev pub placeNumbers : Read → List ℕ
+placeNumbers (refused number) = 1 ∷ 2 ∷ 3 ∷ 4 ∷ []
+placeNumbers (header p g) = 4 ∷ 5 ∷ 6 ∷ []
+placeNumbers (order row) = 4 ∷ 6 ∷ 7 ∷ 8 ∷ []
+placeNumbers (call c) = cond (eqb (argumentsRefusal c) 0) (numbersOf c) (4 ∷ [])
+
+-- each `refused R` line of a file has a number of its place: of the records that let the file go on, and of the one that ends it
+abbrev pub RefusedByPlace : Type 0
+RefusedByPlace =
+    (s : List ℕ) (l k : List Read) (x : Read) (number : ℕ) → reads s ≡ l ++ (x ∷ k) → standing start l ≡ l
+    → saidOf (madeAll start l) x ≡ Refused number ∷ [] → Member number (placeNumbers x)

@@ -1,24 +1,83 @@
--- The whole listing of a file.
-use mathlib.Core.Bool.{Bool, cond, not}
-use mathlib.Core.List.{List, _++_}
-use Prim.Native.Nat.{ℕ, zero, suc, _+_}
-use lib.Dec.{ltb, leb, eqb}
+-- What the records of a file make, what is said of each, and the listing.
+use mathlib.Core.Bool.{Bool, false, cond, not}
+use mathlib.Core.List.{List, [], _∷_, _++_}
+use Prim.Native.Nat.{ℕ, _+_}
+use lib.Dec.{leb, eqb}
+use lib.IntN.{pos}
 use lib.ListN.{length}
-use Rattle.listing.specs.Lines.{recordLines, endLine, said}
-use Rattle.listing.specs.Lines as lines
-use Rattle.session_file.specs.declared.runner.Runner.{Runner}
-use Rattle.session_file.specs.Runner.{start, turnAt}
+use Rattle.book.specs.Book.{noWallet}
+use Rattle.events.specs.declared.Event.{Event}
+use Rattle.events.specs.declared.Event.the-variants.{Opened, Ordered, Refused}
+use Rattle.listing.specs.Lines.{recordLines, endLine}
+use Rattle.auction_engine.specs.declared.Session.{Session}
+use Rattle.auction_engine.specs.Session.{fresh}
+use Rattle.auction_engine.specs.Call.{argumentsRefusal}
+use Rattle.auction_engine.specs.Engine.{refusal, events, answer}
+use Rattle.auction_engine.specs.Opening.{headerRefusal, orderRefusal, withOrder}
+use Rattle.session_file.specs.Marks.{noKind, headerKind, orderKind, callKind}
+use Rattle.session_file.specs.Fields.{Read, refused, header, order, call}
+use Rattle.session_file.specs.Reads.{reads}
 
--- the last line, from where the file was left
-abbrev pub lastLine : Runner → List ℕ
-lastLine r = endLine (not (eqb (r .stage) 0)) (r .session .phase) (r .session .«skipped_fills»)
+-- what a file carries from record to record: the kind of the record before, and the session
+pub record State : Type 0 where
+  pub stage : ℕ
+  pub session : Session
 
--- from a runner on, while bytes are left: the record's lines, and what follows. 'A line starts with its record's number from 0'. n is at least
--- the number of bytes left, and each record takes one or more
-unfoldable pub listingFrom : (n number : ℕ) → List ℕ → Runner → List ℕ
-listingFrom zero number s r = lastLine r
-listingFrom (suc n) number s r =
-    cond (ltb (r .at) (length s)) (recordLines number (said (turnAt s r .said)) ++ listingFrom n (number + 1) s (turnAt s r .runner)) (lastLine r)
+abbrev pub state : (stage : ℕ) → Session → State
+state stage s = record { stage = stage; session = s }
+
+-- before the first record: no header yet, so the session is not shown to anybody
+unfoldable pub unopened : Session
+unopened =
+    fresh
+    (record { «reveal_end» = pos 0; «rofr_window» = pos 0; «settle_deadline» = pos 0; «max_cash» = 0; «min_reveals» = 0; forced = false; «rofr_authority» = noWallet })
+    (record { mark = false; reserve = 0; reference = 0; policy = 0; «band_bps» = 0 })
+
+abbrev pub start : State
+start = state noKind unopened
+
+-- a file refusal: of reading, of the rows `SH` and `OR`, or a call's '4 a field outside its values'; 0 lets the file go on
+unfoldable pub fileRefusal : State → Read → ℕ
+fileRefusal f (refused number) = number
+fileRefusal f (header p g) = headerRefusal p g
+fileRefusal f (order row) = orderRefusal (f .session) row
+fileRefusal f (call c) = argumentsRefusal c
+
+-- what a file carries on after a record that lets it go on
+unfoldable pub made : State → Read → State
+made f (refused number) = f
+made f (header p g) = state headerKind (fresh p g)
+made f (order row) = state orderKind (withOrder (f .session) row)
+made f (call c) = state callKind (answer (f .session) c .session)
+
+-- what is said of such a record: 'a refused call lets the file go on'
+unfoldable pub saidBy : State → Read → List Event
+saidBy f (refused number) = Refused number ∷ []
+saidBy f (header p g) = Opened ∷ []
+saidBy f (order row) = Ordered (f .session .«order_count») ∷ []
+saidBy f (call c) = cond (eqb (refusal (f .session) c) 0) (events (f .session) c) (Refused (refusal (f .session) c) ∷ [])
+
+-- what is said of any record
+unfoldable pub saidOf : State → Read → List Event
+saidOf f x = cond (eqb (fileRefusal f x) 0) (saidBy f x) (Refused (fileRefusal f x) ∷ [])
+
+-- the records in turn: what is said of each, and what the file has made at the end. 'After a file refusal's line only the `end` line follows'
+abbrev pub told : State → List Read → List (List Event)
+told f [] = []
+told f (x ∷ l) = saidOf f x ∷ cond (eqb (fileRefusal f x) 0) (told (made f x) l) []
+
+abbrev pub left : State → List Read → State
+left f [] = f
+left f (x ∷ l) = cond (eqb (fileRefusal f x) 0) (left (made f x) l) f
+
+-- 'A line starts with its record's number from 0'
+abbrev pub numbered : (number : ℕ) → List (List Event) → List ℕ
+numbered number [] = []
+numbered number (x ∷ l) = recordLines number x ++ numbered (number + 1) l
+
+-- the last line
+abbrev pub lastLine : State → List ℕ
+lastLine f = endLine (not (eqb (f .stage) noKind)) (f .session .phase) (f .session .«skipped_fills»)
 
 -- 'Whole input | 26 above 65,536 bytes'
 abbrev pub maxInput : ℕ
@@ -27,4 +86,6 @@ maxInput = 65536
 -- the listing of a file: 'For 26 the program prints `0 refused 26`, `end none`'
 unfoldable pub listing : List ℕ → List ℕ
 listing s =
-    cond (leb (length s) maxInput) (listingFrom (length s) 0 s start) (recordLines 0 (lines.refused 26) ++ lastLine start)
+    cond (leb (length s) maxInput)
+    (numbered 0 (told start (reads s)) ++ lastLine (left start (reads s)))
+    (numbered 0 ((Refused 26 ∷ []) ∷ []) ++ lastLine start)

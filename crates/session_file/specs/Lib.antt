@@ -1,9 +1,12 @@
--- A session file: its records, its course, its listing.
+-- A session file: its records, what they make, its listing.
 pub mod Bytes
-pub mod Records
-pub mod Calls
-pub mod Runner
-pub mod Steps
+pub mod Marks
+pub mod Fields
+pub mod Reads
 pub mod File
 pub mod Entry
 pub mod Claims
+pub mod Heads
+pub mod Calls
+pub mod Steps
+pub mod Parts

@@ -1,50 +1,97 @@
--- Records that change little: an order, and every call that is not left to the whole session. proofs/ shows that their steps are turns.
+-- What the code hands on while it runs a file: the step of a record. proofs/ shows that it is what File.antt says of the record.
 use mathlib.Core.Bool.{true, false, cond, _&&_}
-use mathlib.Core.List.{List, []}
+use mathlib.Core.List.{List, [], _∷_}
 use Prim.Native.Nat.{ℕ, _+_}
 use lib.Dec.{eqb}
-use lib.ListN.{drop}
-use Rattle.book.specs.Book.{listed}
-use Rattle.book.specs.declared.Row.{Row}
-use Rattle.events.specs.Events.{few}
-use Rattle.listing.specs.declared.Brief.{Brief}
+use lib.IntN.{pos}
+use lib.ListN.{length, drop}
+use Rattle.laws.specs.Checks.{_then_}
+use Rattle.events.specs.Events.{few, packed}
+use Rattle.events.specs.declared.Event.{Event}
+use Rattle.events.specs.declared.Event.the-variants.{Opened, Ordered, Refused}
+use Rattle.events.specs.declared.Events.{Events}
+use Rattle.events.specs.declared.Few.{Few}
 use Rattle.auction_engine.specs.declared.Session.{Session}
+use Rattle.auction_engine.specs.declared.Answer.{Answer}
+use Rattle.auction_engine.specs.declared.CallRecord.{CallRecord}
 use Rattle.auction_engine.specs.declared.changes.Change.{Change}
-use Rattle.auction_engine.specs.Session.{fillAt}
-use Rattle.auction_engine.specs.Opening.{orderRefusal, withOrder}
-use Rattle.auction_engine.specs.Changes.{writing, unchanged}
-use Rattle.session_file.specs.declared.runner.Spot.{Spot}
-use Rattle.session_file.specs.declared.steps.RowAt.{RowAt}
-use Rattle.session_file.specs.declared.steps.Step.{Step}
-use Rattle.session_file.specs.Records.{kindOf, widthOf, rowOf, markAt, recordRefusal}
+use Rattle.auction_engine.specs.Engine.{recordArguments}
+use Rattle.auction_engine.specs.Opening.{headerRefusal}
+use Rattle.auction_engine.specs.Changes.{recordChange}
+use Rattle.session_file.specs.declared.records.Head.{Head}
+use Rattle.session_file.specs.declared.fields.Fields.{Fields}
+use Rattle.session_file.specs.declared.file.Place.{Place}
+use Rattle.session_file.specs.declared.file.Step.{Step}
+use Rattle.session_file.specs.Marks.{headerKind, orderKind, callKind}
+use Rattle.session_file.specs.Fields.{Read}
+use Rattle.session_file.specs.Calls.{blankCall}
+use Rattle.session_file.specs.Reads.{shapeAt, readNext}
+use Rattle.session_file.specs.File.{State, state, fileRefusal, made, saidOf}
 
--- the order at a place, if one stands there
-unfoldable pub rowAt : List ℕ → Spot → RowAt
-rowAt s p =
-    cond (eqb (recordRefusal (drop (p .at) s) (p .stage)) 0)
-    (record {
-      stands = eqb (kindOf (markAt (drop (p .at) s))) 2;
-      after = record { stage = 1; at = p .at + widthOf (markAt (drop (p .at) s)) };
-      row = rowOf (drop (p .at) s);
-    })
-    (record { stands = false; after = p; row = rowOf (drop (p .at) s) })
+-- the next place of a file
+unfoldable pub placeAfter : Place → Head → (refusal end : ℕ) → Place
+placeAfter p h refusal end = cond (eqb refusal 0) (record { at = p .at + h .width; stage = h .kind }) (record { at = end; stage = p .stage })
 
--- what a change is said as: its refusal, or its events
-abbrev pub briefOf : Change → Brief
-briefOf c =
-    cond (eqb (c .refusal) 0) (record { kind = 3; figure = 0; events = c .events }) (record { kind = 2; figure = c .refusal; events = few [] })
+-- what ends the file before the session is looked at
+unfoldable pub earlyRefusal : (refusal : ℕ) → Fields → ℕ
+earlyRefusal n f =
+    n then cond (eqb (f .kind) headerKind) (headerRefusal (f .params) (f .given)) (cond (eqb (f .kind) callKind) (recordArguments (f .call)) 0)
 
--- the step of a call
-abbrev pub callStep : Change → Spot → Step
-callStep c after = record { whole = c .whole; change = c; after = after; said = briefOf c }
+-- the call to be made: none where something ended the file, or the record is no call; a kind above 8 changes nothing
+unfoldable pub callIn : (refusal kind : ℕ) → CallRecord → CallRecord
+callIn n kind r = cond (eqb n 0 && eqb kind callKind) r (blankCall 255 (pos 0))
 
--- what one order more changes
-abbrev pub rowChange : Session → Row → Change
-rowChange s row = writing (withOrder s row) false (s .«order_count») (listed row) 0 (fillAt s 0) 0 (few [])
+-- what the record changes
+abbrev pub changeIn : Session → (refusal : ℕ) → Fields → Change
+changeIn s n f = recordChange s (eqb n 0 && eqb (f .kind) orderKind) (f .row) (callIn n (f .kind) (f .call))
 
--- the step of an order that stands and is not refused; any other record is left to the whole session
-unfoldable pub rowStep : Session → RowAt → Step
-rowStep s r =
-    cond (r .stands && eqb (orderRefusal s (r .row)) 0)
-    (record { whole = false; change = rowChange s (r .row); after = r .after; said = record { kind = 1; figure = s .«order_count»; events = few [] } })
-    (record { whole = true; change = unchanged s 0; after = r .after; said = briefOf (unchanged s 0) })
+-- a record that ends the file
+abbrev pub stops : (refusal : ℕ) → Change → Step
+stops n c = record { refusal = n; opens = false; undecided = false; change = c; said = few (Refused n ∷ []) }
+
+-- a header
+abbrev pub headerStep : Change → Step
+headerStep c = record { refusal = 0; opens = true; undecided = false; change = c; said = few (Opened ∷ []) }
+
+-- what is said of a change, and of an answer: the refusal, or the events
+unfoldable pub saidFew : (refusal : ℕ) → Few → Few
+saidFew n es = cond (eqb n 0) es (few (Refused n ∷ []))
+
+-- an order: one that is refused ends the file
+abbrev pub orderStep : Change → (orders : ℕ) → Step
+orderStep c orders = record { refusal = c .refusal; opens = false; undecided = false; change = c; said = saidFew (c .refusal) (few (Ordered orders ∷ [])) }
+
+unfoldable pub saidAll : Answer → Events
+saidAll a = cond (eqb (a .refusal) 0) (a .events) (packed (Refused (a .refusal) ∷ []))
+
+-- a call
+abbrev pub callStep : Change → Step
+callStep c = record { refusal = 0; opens = false; undecided = c .undecided; change = c; said = saidFew (c .refusal) (c .events) }
+
+-- by the kind of the record
+unfoldable pub stepBy : (refusal kind : ℕ) → Change → (orders : ℕ) → Step
+stepBy n kind c orders = cond (eqb n 0) (cond (eqb kind headerKind) (headerStep c) (cond (eqb kind orderKind) (orderStep c orders) (callStep c))) (stops n c)
+
+-- the step of what was read, with the refusal of reading
+abbrev pub stepOf : Session → (refusal : ℕ) → Fields → Step
+stepOf s n f = stepBy (earlyRefusal n f) (f .kind) (changeIn s (earlyRefusal n f) f) (s .«order_count»)
+
+-- what File.antt says of the record at a place: the place after it, the session, and what is said
+pub record Turn : Type 0 where
+  pub place : Place
+  pub session : Session
+  pub said : List Event
+
+unfoldable pub turnAt : List ℕ → Place → Session → Turn
+turnAt s p x =
+    let rest : List ℕ = drop (p .at) s in
+    let f : State = state (p .stage) x in
+    let r : Read = readNext (p .stage) rest in
+    record {
+      place =
+          cond (eqb (fileRefusal f r) 0)
+          (record { at = p .at + shapeAt rest .width; stage = shapeAt rest .kind })
+          (record { at = length s; stage = p .stage });
+      session = cond (eqb (fileRefusal f r) 0) (made f r .session) x;
+      said = saidOf f r;
+    }

@@ -1,36 +1,14 @@
-// The call that a record says: a match over its mark chooses the reader.
+// The readers of calls, one for each mark. `rec` is the record's own bytes.
 ghost use mathlib.Core.Path.{_≡_};
 ghost use Prim.Native.Nat.{ℕ, _≤_};
 ghost use Rattle.auction_engine.specs.Call as call;
 ghost use Rattle.session_file.specs.Bytes.{word, bytesAt, timeAt, flagAt};
-ghost use Rattle.session_file.specs.Records.{fieldsOf};
-ghost use Rattle.session_file.specs.Calls.{blankCall, recordOf, callRead};
+ghost use Rattle.session_file.specs.Calls.{blankCall, recordOf};
 use crate::bytes;
-use crate::records::Mark;
 use auction_engine::CallRecord;
 
-// Of a mark that is no call's, the blank call.
-pub fn read_call(m: Mark, rec: &[u8]) -> CallRecord
-    ensures { λ r. ⌜ r ≡ callRead (fieldsOf m (now (rec .entry))) ⌝ }
-{
-    match m {
-        Mark::Unknown => blank(0, 0),
-        Mark::SH => blank(0, 0),
-        Mark::OR => blank(0, 0),
-        Mark::SC => read_screen(rec),
-        Mark::CL => blank(auction_engine::CLEAR, bytes::time_at(rec, 2)),
-        Mark::AL => read_allocate(rec),
-        Mark::RX => read_exercise(rec),
-        Mark::RC => read_close(rec),
-        Mark::ST => read_settle(rec),
-        Mark::SK => read_skip(rec),
-        Mark::FN => blank(auction_engine::FINISH, bytes::time_at(rec, 2)),
-        Mark::EX => blank(auction_engine::EXPIRE, bytes::time_at(rec, 2)),
-    }
-}
-
 // A call of a kind at a time, with no other argument.
-fn blank(kind: u8, now: i64) -> CallRecord
+pub fn blank(kind: u8, now: i64) -> CallRecord
     ensures { λ r. ⌜ r ≡ blankCall kind now ⌝ }
 {
     CallRecord {
@@ -49,7 +27,7 @@ fn blank(kind: u8, now: i64) -> CallRecord
     }
 }
 
-fn read_screen(rec: &[u8]) -> CallRecord
+pub fn read_screen(rec: &[u8]) -> CallRecord
     ensures { λ r. ⌜ r ≡ recordOf (call.screen (timeAt (now (rec .entry)) 2) (word 1 (now (rec .entry)) 10) (word 1 (now (rec .entry)) 11) (word 1 (now (rec .entry)) 12) (flagAt (now (rec .entry)) 13) (bytesAt 16 (now (rec .entry)) 14)) ⌝ }
 {
     let id = bytes::id_at(rec, 14);
@@ -62,7 +40,7 @@ fn read_screen(rec: &[u8]) -> CallRecord
     c
 }
 
-fn read_allocate(rec: &[u8]) -> CallRecord
+pub fn read_allocate(rec: &[u8]) -> CallRecord
     ensures { λ r. ⌜ r ≡ recordOf (call.allocate (timeAt (now (rec .entry)) 2) (word 1 (now (rec .entry)) 10)) ⌝ }
 {
     let mut c = blank(auction_engine::ALLOCATE, bytes::time_at(rec, 2));
@@ -70,7 +48,7 @@ fn read_allocate(rec: &[u8]) -> CallRecord
     c
 }
 
-fn read_exercise(rec: &[u8]) -> CallRecord
+pub fn read_exercise(rec: &[u8]) -> CallRecord
     ensures { λ r. ⌜ r ≡ recordOf (call.exercise (timeAt (now (rec .entry)) 2) (bytesAt 32 (now (rec .entry)) 10) (word 4 (now (rec .entry)) 42) (word 8 (now (rec .entry)) 46)) ⌝ }
 {
     let issuer = bytes::key_at(rec, 10);
@@ -81,7 +59,7 @@ fn read_exercise(rec: &[u8]) -> CallRecord
     c
 }
 
-fn read_close(rec: &[u8]) -> CallRecord
+pub fn read_close(rec: &[u8]) -> CallRecord
     ensures { λ r. ⌜ r ≡ recordOf (call.close (timeAt (now (rec .entry)) 2) (bytesAt 32 (now (rec .entry)) 10)) ⌝ }
 {
     let caller = bytes::key_at(rec, 10);
@@ -90,7 +68,7 @@ fn read_close(rec: &[u8]) -> CallRecord
     c
 }
 
-fn read_settle(rec: &[u8]) -> CallRecord
+pub fn read_settle(rec: &[u8]) -> CallRecord
     ensures { λ r. ⌜ r ≡ recordOf (call.settle (word 4 (now (rec .entry)) 2)) ⌝ }
 {
     let mut c = blank(auction_engine::SETTLE, 0);
@@ -98,11 +76,29 @@ fn read_settle(rec: &[u8]) -> CallRecord
     c
 }
 
-fn read_skip(rec: &[u8]) -> CallRecord
+pub fn read_skip(rec: &[u8]) -> CallRecord
     ensures { λ r. ⌜ r ≡ recordOf (call.skip (timeAt (now (rec .entry)) 2) (word 4 (now (rec .entry)) 10) (word 1 (now (rec .entry)) 14)) ⌝ }
 {
     let mut c = blank(auction_engine::SKIP, bytes::time_at(rec, 2));
     c.fill = bytes::u32_at(rec, 10);
     c.reason = bytes::u8_at(rec, 14);
     c
+}
+
+pub fn read_clear(rec: &[u8]) -> CallRecord
+    ensures { λ r. ⌜ r ≡ recordOf (call.clear (timeAt (now (rec .entry)) 2)) ⌝ }
+{
+    blank(auction_engine::CLEAR, bytes::time_at(rec, 2))
+}
+
+pub fn read_finish(rec: &[u8]) -> CallRecord
+    ensures { λ r. ⌜ r ≡ recordOf (call.finish (timeAt (now (rec .entry)) 2)) ⌝ }
+{
+    blank(auction_engine::FINISH, bytes::time_at(rec, 2))
+}
+
+pub fn read_expire(rec: &[u8]) -> CallRecord
+    ensures { λ r. ⌜ r ≡ recordOf (call.expire (timeAt (now (rec .entry)) 2)) ⌝ }
+{
+    blank(auction_engine::EXPIRE, bytes::time_at(rec, 2))
 }

@@ -7,20 +7,17 @@ ghost use lib.ListN.{length, replicate};
 ghost use Rattle.listing.specs.Writing.{Writes};
 ghost use Rattle.listing.specs.Lines.{endLine};
 ghost use Rattle.session_file.specs.File.{maxInput};
-ghost use Rattle.session_file.specs.Runner.{start, runnerAt, turnOf, turnAt, callAt};
 ghost use Rattle.session_file.specs.Entry.{Listed, Entered, Ran};
-use crate::runner::CallAt;
-use crate::runner::Spot;
-use crate::runner::TurnAt;
+use crate::file::Place;
 use auction_engine::Session;
 use listing::Written;
 
 pub mod bytes;
-pub mod calls;
-pub mod opening;
-pub mod records;
-pub mod runner;
-pub mod steps;
+mod calls;
+mod fields;
+mod file;
+pub mod parts;
+mod records;
 
 // The longest file.
 pub const MAX_INPUT: usize = 65536;
@@ -58,27 +55,32 @@ pub extern "C" fn clear_session_file(input: &[u8], out: &mut [u8]) -> i64
     written.len as i64
 }
 
-// The records in turn, each record's lines in the part after those already there.
+// The records in turn, each record's lines in the part after those already there. What a record changes is written where the session lies.
 fn run_file(input: &[u8], out: &mut [u8]) -> Written
     requires { ⌜ length (now input) ≤ maxInput ⌝ }
     ensures { λ r. ⌜ Ran (now (input .entry)) r (now (out .entry)) (now (out .exit)) ⌝ }
 {
-    let mut session = runner::unopened();
-    let mut spot = Spot { stage: 0, at: 0 };
+    let mut session = file::unopened();
+    let mut place = Place { at: 0, stage: 0 };
     let mut number: u64 = 0;
     let mut at = 0;
-    while spot.at < input.len() {
-        let c = runner::call_at(input, spot);
-        let step = if c.stands {
-            steps::call_step(session.change(c.call), c.after)
-        } else {
-            steps::row_step(session, steps::row_at(input, spot))
-        };
-        let written = if step.whole {
-            let t = whole_turn(input, spot, session, c);
-            session = t.session;
-            spot = t.after;
-            listing::put_record(&mut out[at..], number, t.said)
+    while place.at < input.len() {
+        let rest = records::rest_of(input, place.at);
+        let head = records::head_of(rest, place.stage);
+        let mark = head.mark;
+        let f = fields::read(mark, records::own_bytes(rest, head.width));
+        let refusal = file::early_refusal(head.refusal, f);
+        let order = file::is_kind(refusal, f.kind, records::ORDER);
+        let call = file::call_of(refusal, f.kind, f.call);
+        let change = session.change(order, f.row, call);
+        let step = file::step_of(refusal, f.kind, change, session.order_count);
+        let written = if step.undecided {
+            let a = session.apply(f.call);
+            session = a.session;
+            listing::put_events(&mut out[at..], number, file::said_all(a))
+        } else if step.opens {
+            session = Session::new(f.params, f.given);
+            listing::put_few(&mut out[at..], number, step.said)
         } else {
             let order = step.change.order;
             let fill = step.change.fill;
@@ -90,35 +92,17 @@ fn run_file(input: &[u8], out: &mut [u8]) -> Written
             session.fills_settled = step.change.fills_settled;
             session.skipped_fills = step.change.skipped_fills;
             session.order_count = step.change.order_count;
-            spot = step.after;
-            listing::put_brief(&mut out[at..], number, step.said)
+            listing::put_few(&mut out[at..], number, step.said)
         };
         if written.refusal != 0 {
             return written;
         }
         at = at + written.len;
         number = number + 1;
+        place = file::place_after(place, head, step.refusal, input.len());
     }
-    let last = put_last(&mut out[at..], spot.stage, session);
+    let last = put_last(&mut out[at..], place.stage, session);
     ended(at, last)
-}
-
-// The turn of a record that is left to the whole session; a call was read already.
-fn whole_turn(input: &[u8], spot: Spot, session: Session, c: CallAt) -> TurnAt
-    requires { ⌜ c ≡ callAt (now input) spot ⌝ }
-    ensures { λ t. ⌜ turnOf t ≡ turnAt (now (input .entry)) (runnerAt spot session) ⌝ }
-{
-    if c.stands {
-        let a = session.apply(c.call);
-        let session = a.session;
-        let after = c.after;
-        return TurnAt {
-            session,
-            after,
-            said: runner::answered(a),
-        };
-    }
-    runner::turn_at(input, spot, session)
 }
 
 fn put_last(out: &mut [u8], stage: u8, s: Session) -> Written

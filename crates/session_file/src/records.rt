@@ -1,20 +1,18 @@
-// The records of a session file: their marks, places and widths, and their fields. `rec` is what is left of the file, from a mark on.
+// The records of a session file: their marks and shapes, and the head of a record, which says whether it may be read.
 ghost use mathlib.Core.Path.{_≡_};
-ghost use mathlib.Core.Bool.{Bool, true, false};
+ghost use mathlib.Core.List.{List, [], _∷_};
 ghost use Prim.Native.Nat.{ℕ, _+_, _<_, _≤_};
 ghost use lib.Dec.{leb};
-ghost use lib.ListN.{length};
+ghost use lib.ListN.{length, take, drop};
 ghost use Rattle.laws.specs.Checks.{unless};
 ghost use Rattle.session_file.specs.Bytes.{word};
-ghost use Rattle.session_file.specs.Records.{markOf, kindOf, widthOf, inPlace, paramsOf, givenOf, rowOf, flagPlaces, flagsRefusal, recordRefusal};
+ghost use Rattle.session_file.specs.Marks.{markOf, shapeOf, inPlace};
+ghost use Rattle.session_file.specs.Reads.{flagsRefusal};
+ghost use Rattle.session_file.specs.Heads.{shapeIn, flagsIn, headAt};
 use crate::bytes;
 use auction_engine::both;
-use auction_engine::either;
 use auction_engine::first_of;
 use auction_engine::unless;
-use book::Given;
-use book::Params;
-use book::Row;
 
 // What a mark says.
 pub enum Mark {
@@ -32,91 +30,92 @@ pub enum Mark {
     EX,
 }
 
+// The kinds of records, in the order in which they stand in a file.
+pub const NO_KIND: u8 = 0;
+
+pub const HEADER: u8 = 1;
+
+pub const ORDER: u8 = 2;
+
+pub const CALL: u8 = 3;
+
 // The mark of two bytes, read as one little-endian number.
 pub fn mark_of(m: u16) -> Mark
     ensures { λ r. ⌜ r ≡ markOf m ⌝ }
 {
     match m {
-        18515 => Mark::SH,
-        21071 => Mark::OR,
-        17235 => Mark::SC,
-        19523 => Mark::CL,
-        19521 => Mark::AL,
-        22610 => Mark::RX,
-        17234 => Mark::RC,
-        21587 => Mark::ST,
-        19283 => Mark::SK,
-        20038 => Mark::FN,
-        22597 => Mark::EX,
+        0x4853 => Mark::SH,
+        0x524f => Mark::OR,
+        0x4353 => Mark::SC,
+        0x4c43 => Mark::CL,
+        0x4c41 => Mark::AL,
+        0x5852 => Mark::RX,
+        0x4352 => Mark::RC,
+        0x5453 => Mark::ST,
+        0x4b53 => Mark::SK,
+        0x4e46 => Mark::FN,
+        0x5845 => Mark::EX,
         _ => Mark::Unknown,
     }
 }
 
-// 1 a header, 2 an order, 3 a call, 0 no record.
-pub fn kind_of(m: Mark) -> u8
-    ensures { λ r. ⌜ r ≡ kindOf m ⌝ }
+// What a mark says of its record: its kind, its bytes in all, and the places of at most two flags.
+pub struct Shape {
+    pub kind: u8,
+    pub width: usize,
+    pub flags: usize,
+    pub first: usize,
+    pub second: usize,
+}
+
+// The one table of the marks.
+pub fn shape_of(m: Mark) -> Shape
+    ensures { λ r. ⌜ r ≡ shapeIn (shapeOf m) ⌝ }
 {
     match m {
-        Mark::Unknown => 0,
-        Mark::SH => 1,
-        Mark::OR => 2,
-        Mark::SC => 3,
-        Mark::CL => 3,
-        Mark::AL => 3,
-        Mark::RX => 3,
-        Mark::RC => 3,
-        Mark::ST => 3,
-        Mark::SK => 3,
-        Mark::FN => 3,
-        Mark::EX => 3,
+        Mark::Unknown => shaped(NO_KIND, 2, 0, 0, 0),
+        Mark::SH => shaped(HEADER, 94, 2, 35, 68),
+        Mark::OR => shaped(ORDER, 60, 1, 43, 0),
+        Mark::SC => shaped(CALL, 30, 1, 13, 0),
+        Mark::CL => shaped(CALL, 10, 0, 0, 0),
+        Mark::AL => shaped(CALL, 11, 0, 0, 0),
+        Mark::RX => shaped(CALL, 54, 0, 0, 0),
+        Mark::RC => shaped(CALL, 42, 0, 0, 0),
+        Mark::ST => shaped(CALL, 6, 0, 0, 0),
+        Mark::SK => shaped(CALL, 15, 0, 0, 0),
+        Mark::FN => shaped(CALL, 10, 0, 0, 0),
+        Mark::EX => shaped(CALL, 10, 0, 0, 0),
     }
 }
 
-// How many bytes a record has in all.
-pub fn width_of(m: Mark) -> usize
-    ensures { λ r. ⌜ r ≡ widthOf m ⌝ }
+fn shaped(kind: u8, width: usize, flags: usize, first: usize, second: usize) -> Shape
+    ensures { λ r. ⌜ r ≡ record { kind = kind; width = width; flags = flags; first = first; second = second } ⌝ }
 {
-    match m {
-        Mark::Unknown => 2,
-        Mark::SH => 94,
-        Mark::OR => 60,
-        Mark::SC => 30,
-        Mark::CL => 10,
-        Mark::AL => 11,
-        Mark::RX => 54,
-        Mark::RC => 42,
-        Mark::ST => 6,
-        Mark::SK => 15,
-        Mark::FN => 10,
-        Mark::EX => 10,
+    Shape {
+        kind,
+        width,
+        flags,
+        first,
+        second,
     }
 }
 
 // One header first, then orders, then calls.
-pub fn in_place(stage: u8, m: Mark) -> bool
-    ensures { λ r. ⌜ r ≡ inPlace stage m ⌝ }
+fn in_place(before: u8, kind: u8) -> bool
+    ensures { λ r. ⌜ r ≡ inPlace before kind ⌝ }
 {
-    let kind = kind_of(m);
-    let header = both(kind == 1, stage == 0);
-    let order = both(kind == 2, stage == 1);
-    let call = both(kind == 3, 0 < stage);
-    either(either(header, order), call)
+    if kind == HEADER {
+        return before == NO_KIND;
+    }
+    both(0 < before, before <= kind)
 }
 
-// The refusals of any record: 1 no whole mark; 2 unknown; 3 out of order; 1 cut; 4 a flag outside its values.
-pub fn record_refusal(rec: &[u8], stage: u8) -> u8
-    ensures { λ r. ⌜ r ≡ recordRefusal (now (rec .entry)) stage ⌝ }
-{
-    let m = mark_of(bytes::u16_at(rec, 0));
-    let whole = unless(2 <= rec.len(), NO_RECORD);
-    let mark = unless(0 < kind_of(m), UNKNOWN_MARK);
-    let place = unless(in_place(stage, m), OUT_OF_ORDER);
-    let body = unless(width_of(m) <= rec.len(), NO_RECORD);
-    let flags = flags_refusal(rec, m);
-    first_of(
-        whole,
-        first_of(mark, first_of(place, first_of(body, flags))),
-    )
+// The head of a record: what refuses it, its mark, its kind and its width.
+pub struct Head {
+    pub refusal: u8,
+    pub mark: Mark,
+    pub kind: u8,
+    pub width: usize,
 }
 
 const NO_RECORD: u8 = 1;
@@ -125,84 +124,67 @@ const UNKNOWN_MARK: u8 = 2;
 
 const OUT_OF_ORDER: u8 = 3;
 
-fn flags_refusal(rec: &[u8], m: Mark) -> u8
-    ensures { λ r. ⌜ r ≡ flagsRefusal (now (rec .entry)) (flagPlaces m) ⌝ }
+// The head of what is left of a file: 1 no whole mark; 2 unknown; 3 out of order; 1 cut; 4 a flag outside its values.
+pub fn head_of(rest: &[u8], before: u8) -> Head
+    ensures { λ r. ⌜ r ≡ headAt before (now (rest .entry)) ⌝ }
 {
-    match m {
-        Mark::Unknown => 0,
-        Mark::SH => first_of(flag_refusal(rec, 35), flag_refusal(rec, 68)),
-        Mark::OR => flag_refusal(rec, 43),
-        Mark::SC => flag_refusal(rec, 13),
-        Mark::CL => 0,
-        Mark::AL => 0,
-        Mark::RX => 0,
-        Mark::RC => 0,
-        Mark::ST => 0,
-        Mark::SK => 0,
-        Mark::FN => 0,
-        Mark::EX => 0,
+    let mark = mark_of(bytes::u16_at(rest, 0));
+    let s = shape_of(mark);
+    let width = s.width;
+    let whole = unless(2 <= rest.len(), NO_RECORD);
+    let known = unless(0 < s.kind, UNKNOWN_MARK);
+    let place = unless(in_place(before, s.kind), OUT_OF_ORDER);
+    let body = unless(width <= rest.len(), NO_RECORD);
+    let flags = flags_refusal(own_bytes(rest, width), s);
+    let refusal = first_of(
+        whole,
+        first_of(known, first_of(place, first_of(body, flags))),
+    );
+    Head {
+        refusal,
+        mark,
+        kind: s.kind,
+        width,
     }
+}
+
+// What is left of a file, from a place on.
+pub fn rest_of(input: &[u8], at: usize) -> &[u8]
+    ensures { λ r. ⌜ now r ≡ drop at (now (input .entry)) ⌝ }
+{
+    if at <= input.len() {
+        return &input[at..];
+    }
+    let end = input.len();
+    &input[end..]
+}
+
+// A record's own bytes, of what is left of a file.
+pub fn own_bytes(rest: &[u8], width: usize) -> &[u8]
+    ensures { λ r. ⌜ now r ≡ take width (now (rest .entry)) ⌝ }
+{
+    if width <= rest.len() {
+        return &rest[..width];
+    }
+    rest
+}
+
+// Each flag of the shape is 0 or 1, else 4.
+fn flags_refusal(rec: &[u8], s: Shape) -> u8
+    ensures { λ r. ⌜ r ≡ flagsRefusal (now (rec .entry)) (flagsIn s) ⌝ }
+{
+    if s.flags == 0 {
+        return 0;
+    }
+    let first = flag_refusal(rec, s.first);
+    if s.flags == 1 {
+        return first;
+    }
+    first_of(first, flag_refusal(rec, s.second))
 }
 
 fn flag_refusal(rec: &[u8], at: usize) -> u8
     ensures { λ r. ⌜ r ≡ unless (leb (word 1 (now (rec .entry)) at) 1) 4 ⌝ }
 {
     unless(bytes::u8_at(rec, at) <= 1, book::error::BAD_FIELD)
-}
-
-pub fn params_of(rec: &[u8]) -> Params
-    ensures { λ r. ⌜ r ≡ paramsOf (now (rec .entry)) ⌝ }
-{
-    let reveal_end = bytes::time_at(rec, 2);
-    let rofr_window = bytes::time_at(rec, 10);
-    let settle_deadline = bytes::time_at(rec, 18);
-    let max_cash = bytes::u64_at(rec, 26);
-    let min_reveals = bytes::u8_at(rec, 34);
-    let forced = bytes::flag_at(rec, 35);
-    let rofr_authority = bytes::key_at(rec, 36);
-    Params {
-        reveal_end,
-        rofr_window,
-        settle_deadline,
-        max_cash,
-        min_reveals,
-        forced,
-        rofr_authority,
-    }
-}
-
-pub fn given_of(rec: &[u8]) -> Given
-    ensures { λ r. ⌜ r ≡ givenOf (now (rec .entry)) ⌝ }
-{
-    let mark = bytes::flag_at(rec, 68);
-    let reserve = bytes::u64_at(rec, 69);
-    let reference = bytes::u64_at(rec, 77);
-    let policy = bytes::u8_at(rec, 85);
-    let band_bps = bytes::u64_at(rec, 86);
-    Given {
-        mark,
-        reserve,
-        reference,
-        policy,
-        band_bps,
-    }
-}
-
-pub fn row_of(rec: &[u8]) -> Row
-    ensures { λ r. ⌜ r ≡ rowOf (now (rec .entry)) ⌝ }
-{
-    let owner = bytes::key_at(rec, 2);
-    let side = bytes::u8_at(rec, 34);
-    let escrowed = bytes::u64_at(rec, 35);
-    let revealed = bytes::flag_at(rec, 43);
-    let limit = bytes::u64_at(rec, 44);
-    let qty = bytes::u64_at(rec, 52);
-    Row {
-        owner,
-        side,
-        escrowed,
-        revealed,
-        limit,
-        qty,
-    }
 }

@@ -1,7 +1,7 @@
 -- `session_file::records::mark_of` meets its contract, arm by arm.
 -- Assumes nothing.
 use mathlib.Core.Path.{sym, ap}
-use Rattle.session_file.specs.Records.{markOf}
+use Rattle.session_file.specs.Marks.{markOf}
 use Rattle.session_file.proofs.Marks.{mark-none}
 use Rattle.session_file.proofs.records.mark_of.Statement.{statement}
 use Rattle.session_file.proofs.records.mark_of.Tie as tie

@@ -1,0 +1,23 @@
+-- `session_file::fields::blank` meets its contract, from those of its parts.
+-- Assumes nothing.
+use borrow.Author.Needs.{needs}
+use Rattle.session_file.proofs.fields.blank.Statement.{statement}
+use Rattle.session_file.proofs.fields.blank.Tie as tie
+
+no-params-requires : tie.Need-no-params-requires
+no-params-requires c κs = search needs
+
+no-given-requires : tie.Need-no-given-requires
+no-given-requires c κs = search needs
+
+no-row-requires : tie.Need-no-row-requires
+no-row-requires c κs = search needs
+
+blank-requires : tie.Need-blank-requires
+blank-requires c κs = search needs
+
+returns : tie.Need-returns
+returns c = rw (c .blank .ensures, c .before .no-row .ensures, c .before .before .no-given .ensures, c .before .before .before .no-params .ensures)
+
+pub blank-spec : {M : Type 1} → statement M
+blank-spec = tie.close (tie.spec no-params-requires no-given-requires no-row-requires blank-requires returns)

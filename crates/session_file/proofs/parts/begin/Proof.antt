@@ -1,0 +1,16 @@
+-- `session_file::parts::begin` meets its contract, from that of the unopened session.
+-- Assumes nothing.
+use borrow.Author.Needs.{needs}
+use Rattle.session_file.specs.Parts.{begun}
+use Rattle.session_file.proofs.parts.begin.Statement.{statement}
+use Rattle.session_file.proofs.parts.begin.Tie as tie
+
+unopened-requires : tie.Need-unopened-requires
+unopened-requires c κs = search needs
+
+returns : tie.Need-returns
+unfolding begun
+returns c = rw (c .unopened .ensures)
+
+pub begin-spec : {M : Type 1} → statement M
+begin-spec = tie.close (tie.spec unopened-requires returns)

@@ -1,0 +1,108 @@
+-- A listing part by part. proofs/PartByPart.antt shows that the parts in turn are the listing.
+use mathlib.Core.Path.{_≡_}
+use mathlib.Core.Bool.{Bool, true, false, cond}
+use mathlib.Core.List.{List, [], _∷_, _++_}
+use Prim.Native.Nat.{ℕ, zero, suc, _+_, _-_, _%_, _^_, _≤_, _<_}
+use lib.Dec.{ltb, eqb}
+use lib.ListN.{length}
+use Rattle.laws.specs.Sums.{only}
+use Rattle.events.specs.Events.{packed, eventsIn, inFew}
+use Rattle.events.specs.declared.Event.the-variants.{Refused}
+use Rattle.listing.specs.Lines.{recordLines, maxRecord}
+use Rattle.listing.specs.Writing.{Writes}
+use Rattle.auction_engine.specs.declared.Session.{Session}
+use Rattle.auction_engine.specs.Session.{fresh}
+use Rattle.auction_engine.specs.Engine.{applied}
+use Rattle.auction_engine.specs.Changes.{changed}
+use Rattle.session_file.specs.declared.fields.Fields.{Fields}
+use Rattle.session_file.specs.declared.file.Place.{Place}
+use Rattle.session_file.specs.declared.file.Step.{Step}
+use Rattle.session_file.specs.declared.parts.Standing.{Standing}
+use Rattle.session_file.specs.declared.parts.Part.{Part}
+use Rattle.session_file.specs.declared.parts.Next.{Next}
+use Rattle.session_file.specs.declared.parts.Turned.{Turned}
+use Rattle.session_file.specs.Marks.{noKind}
+use Rattle.session_file.specs.File.{state, unopened, lastLine, maxInput, listing}
+use Rattle.session_file.specs.Steps.{saidAll, turnAt}
+
+-- a listing at a place of the file, with so many records behind it
+abbrev pub standingAt : Place → Session → (number : ℕ) (tooLong ended : Bool) → Standing
+standingAt p x number tooLong ended = record { place = p; number = number; «too_long» = tooLong; ended = ended; session = x }
+
+-- before the first part
+unfoldable pub begun : (tooLong : Bool) → Standing
+begun tooLong = standingAt (record { at = 0; stage = noKind }) unopened 0 tooLong false
+
+-- the next part: 'For 26 .. `0 refused 26`, `end none`'; a record's lines while bytes are left; then the last line, and nothing after it
+unfoldable pub partAt : List ℕ → Standing → List ℕ
+partAt s t =
+    cond (t .ended) []
+    (cond (t .«too_long») (recordLines (t .number) (Refused 26 ∷ []))
+    (cond (ltb (t .place .at) (length s)) (recordLines (t .number) (turnAt s (t .place) (t .session) .said))
+    (lastLine (state (t .place .stage) (t .session)))))
+
+-- the number of the next record, in 64 bits
+abbrev pub nextNumber : ℕ → ℕ
+nextNumber n = (n + 1) % 2 ^ 64
+
+-- where the listing stands after that part
+unfoldable pub standingAfter : List ℕ → Standing → Standing
+standingAfter s t =
+    cond (t .ended) t
+    (cond (t .«too_long») (standingAt (record { at = length s; stage = t .place .stage }) (t .session) (nextNumber (t .number)) false false)
+    (cond (ltb (t .place .at) (length s))
+    (standingAt (turnAt s (t .place) (t .session) .place) (turnAt s (t .place) (t .session) .session) (nextNumber (t .number)) false false)
+    (standingAt (t .place) (t .session) (t .number) false true)))
+
+-- what putting the next part does: a part that does not fit leaves the listing where it stood, and with room for any record's lines every part fits
+pub record PartPut (s : List ℕ) (t : Standing) (r : Part) (before left : List ℕ) : Type 0 where
+  pub writes : Writes (partAt s t) (r .written) before left
+  pub standing : r .standing ≡ cond (eqb (r .written .refusal) 0) (standingAfter s t) t
+  pub fits : maxRecord ≤ length before → r .written .refusal ≡ 0
+
+-- n parts in turn
+abbrev pub partsFrom : (n : ℕ) → List ℕ → Standing → List ℕ
+partsFrom zero s t = []
+partsFrom (suc n) s t = partAt s t ++ partsFrom n s (standingAfter s t)
+
+-- where the listing stands after them
+abbrev pub standingFrom : (n : ℕ) → List ℕ → Standing → Standing
+standingFrom zero s t = t
+standingFrom (suc n) s t = standingFrom n s (standingAfter s t)
+
+-- the parts in turn are the listing of the input, and after at most one part for each byte and two more the last line was put; for an input above the limit
+-- they are its listing, whichever part of it is lent
+pub record PartsAreListing : Type 0 where
+  pub whole : (s : List ℕ) → length s ≤ maxInput → (n : ℕ) → length s < n → (partsFrom n s (begun false) ≡ listing s) × (standingFrom n s (begun false) .ended ≡ true)
+  pub too-long : (s input : List ℕ) → maxInput < length input → (n : ℕ) → 2 ≤ n → (partsFrom n s (begun true) ≡ listing input) × (standingFrom n s (begun true) .ended ≡ true)
+
+-- ---- devices: what falls with each part, and what the private functions hand on
+abbrev pub partsLeft : List ℕ → Standing → ℕ
+partsLeft s t = cond (t .ended) 0 (suc (only (t .«too_long») 1 + (length s - t .place .at)))
+
+-- 26 is said, and nothing is read
+abbrev pub wholeRefused : Standing → (end : ℕ) → Next
+wholeRefused t end =
+    record {
+      said = packed (Refused 26 ∷ []);
+      standing = standingAt (record { at = end; stage = t .place .stage }) (t .session) (nextNumber (t .number)) false (t .ended);
+    }
+
+-- the record at the place
+pub record RecordNext (s : List ℕ) (t : Standing) (r : Next) : Type 0 where
+  pub said : eventsIn (r .said) ≡ turnAt s (t .place) (t .session) .said
+  pub standing : r .standing
+      ≡ standingAt (turnAt s (t .place) (t .session) .place) (turnAt s (t .place) (t .session) .session) (nextNumber (t .number)) (t .«too_long») (t .ended)
+
+-- the next part by what is said; the last line is not among it
+pub record NextOf (s : List ℕ) (t : Standing) (r : Next) : Type 0 where
+  pub part : r .standing .ended ≡ false → partAt s t ≡ recordLines (t .number) (eventsIn (r .said))
+  pub last : r .standing .ended ≡ true → partAt s t ≡ lastLine (state (t .place .stage) (t .session))
+  pub standing : r .standing ≡ standingAfter s t
+
+-- the session after a record and what is said of it, by the way in which it is run
+unfoldable pub turnOf : Session → Step → Fields → Turned
+turnOf x t f =
+    cond (t .undecided) (record { session = applied x (f .call) .session; said = saidAll (applied x (f .call)) })
+    (cond (t .opens) (record { session = fresh (f .params) (f .given); said = packed (inFew (t .said)) })
+    (record { session = changed x (t .change); said = packed (inFew (t .said)) }))

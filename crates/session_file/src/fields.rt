@@ -1,0 +1,185 @@
+// The fields of a record: a match over its mark chooses the reader. `rec` is the record's own bytes, its mark first.
+ghost use mathlib.Core.Path.{_≡_};
+ghost use Rattle.session_file.specs.Fields.{paramsOf, givenOf, rowOf, header, order, fieldsOf};
+ghost use Rattle.session_file.specs.Calls.{blankParams, blankGiven, blankRow, noFields, headerFields, orderFields, callFields, fieldsIn};
+use crate::bytes;
+use crate::calls;
+use crate::records;
+use crate::records::Mark;
+use auction_engine::CallRecord;
+use book::Given;
+use book::Params;
+use book::Row;
+
+// What stands in a record: its kind, and the fields of that kind; those of the other kinds are blank.
+pub struct Fields {
+    pub kind: u8,
+    pub params: Params,
+    pub given: Given,
+    pub row: Row,
+    pub call: CallRecord,
+}
+
+// The one dispatch. An unknown mark has no fields.
+pub fn read(mark: Mark, rec: &[u8]) -> Fields
+    ensures { λ r. ⌜ r ≡ fieldsIn (fieldsOf mark (now (rec .entry))) ⌝ }
+{
+    match mark {
+        Mark::Unknown => blank(),
+        Mark::SH => of_header(params_of(rec), given_of(rec)),
+        Mark::OR => of_order(row_of(rec)),
+        Mark::SC => of_call(calls::read_screen(rec)),
+        Mark::CL => of_call(calls::read_clear(rec)),
+        Mark::AL => of_call(calls::read_allocate(rec)),
+        Mark::RX => of_call(calls::read_exercise(rec)),
+        Mark::RC => of_call(calls::read_close(rec)),
+        Mark::ST => of_call(calls::read_settle(rec)),
+        Mark::SK => of_call(calls::read_skip(rec)),
+        Mark::FN => of_call(calls::read_finish(rec)),
+        Mark::EX => of_call(calls::read_expire(rec)),
+    }
+}
+
+fn blank() -> Fields
+    ensures { λ r. ⌜ r ≡ noFields ⌝ }
+{
+    Fields {
+        kind: records::NO_KIND,
+        params: no_params(),
+        given: no_given(),
+        row: no_row(),
+        call: calls::blank(0, 0),
+    }
+}
+
+fn of_header(params: Params, given: Given) -> Fields
+    ensures { λ r. ⌜ r ≡ headerFields params given ⌝ }
+{
+    Fields {
+        kind: records::HEADER,
+        params,
+        given,
+        row: no_row(),
+        call: calls::blank(0, 0),
+    }
+}
+
+fn of_order(row: Row) -> Fields
+    ensures { λ r. ⌜ r ≡ orderFields row ⌝ }
+{
+    Fields {
+        kind: records::ORDER,
+        params: no_params(),
+        given: no_given(),
+        row,
+        call: calls::blank(0, 0),
+    }
+}
+
+fn of_call(call: CallRecord) -> Fields
+    ensures { λ r. ⌜ r ≡ callFields call ⌝ }
+{
+    Fields {
+        kind: records::CALL,
+        params: no_params(),
+        given: no_given(),
+        row: no_row(),
+        call,
+    }
+}
+
+fn no_params() -> Params
+    ensures { λ r. ⌜ r ≡ blankParams ⌝ }
+{
+    Params {
+        reveal_end: 0,
+        rofr_window: 0,
+        settle_deadline: 0,
+        max_cash: 0,
+        min_reveals: 0,
+        forced: false,
+        rofr_authority: [0; 32],
+    }
+}
+
+fn no_given() -> Given
+    ensures { λ r. ⌜ r ≡ blankGiven ⌝ }
+{
+    Given {
+        mark: false,
+        reserve: 0,
+        reference: 0,
+        policy: 0,
+        band_bps: 0,
+    }
+}
+
+fn no_row() -> Row
+    ensures { λ r. ⌜ r ≡ blankRow ⌝ }
+{
+    Row {
+        owner: [0; 32],
+        side: 0,
+        escrowed: 0,
+        revealed: false,
+        limit: 0,
+        qty: 0,
+    }
+}
+
+fn params_of(rec: &[u8]) -> Params
+    ensures { λ r. ⌜ r ≡ paramsOf (now (rec .entry)) ⌝ }
+{
+    let reveal_end = bytes::time_at(rec, 2);
+    let rofr_window = bytes::time_at(rec, 10);
+    let settle_deadline = bytes::time_at(rec, 18);
+    let max_cash = bytes::u64_at(rec, 26);
+    let min_reveals = bytes::u8_at(rec, 34);
+    let forced = bytes::flag_at(rec, 35);
+    let rofr_authority = bytes::key_at(rec, 36);
+    Params {
+        reveal_end,
+        rofr_window,
+        settle_deadline,
+        max_cash,
+        min_reveals,
+        forced,
+        rofr_authority,
+    }
+}
+
+fn given_of(rec: &[u8]) -> Given
+    ensures { λ r. ⌜ r ≡ givenOf (now (rec .entry)) ⌝ }
+{
+    let mark = bytes::flag_at(rec, 68);
+    let reserve = bytes::u64_at(rec, 69);
+    let reference = bytes::u64_at(rec, 77);
+    let policy = bytes::u8_at(rec, 85);
+    let band_bps = bytes::u64_at(rec, 86);
+    Given {
+        mark,
+        reserve,
+        reference,
+        policy,
+        band_bps,
+    }
+}
+
+fn row_of(rec: &[u8]) -> Row
+    ensures { λ r. ⌜ r ≡ rowOf (now (rec .entry)) ⌝ }
+{
+    let owner = bytes::key_at(rec, 2);
+    let side = bytes::u8_at(rec, 34);
+    let escrowed = bytes::u64_at(rec, 35);
+    let revealed = bytes::flag_at(rec, 43);
+    let limit = bytes::u64_at(rec, 44);
+    let qty = bytes::u64_at(rec, 52);
+    Row {
+        owner,
+        side,
+        escrowed,
+        revealed,
+        limit,
+        qty,
+    }
+}

@@ -1,0 +1,178 @@
+// A listing part by part, for who has no room for a whole one: a record's lines, or the last line.
+ghost use mathlib.Core.Path.{_≡_};
+ghost use Prim.Native.Nat.{_<_};
+ghost use lib.ListN.{length};
+ghost use mathlib.Core.Bool.{false};
+ghost use Rattle.session_file.specs.Parts.{begun, PartPut, wholeRefused, NextOf, RecordNext, turnOf};
+use crate::fields;
+use crate::fields::Fields;
+use crate::file;
+use crate::file::Place;
+use crate::file::Step;
+use crate::records;
+use auction_engine::Session;
+use events::Event;
+use events::Events;
+use listing::Written;
+
+// Where a listing stands: the file's place and session, and the number of the next record.
+pub struct Standing {
+    pub place: Place,
+    pub number: u64,
+    // 26 is to be said of the whole input.
+    pub too_long: bool,
+    // The last line was put.
+    pub ended: bool,
+    pub session: Session,
+}
+
+// Before the first part. The caller says whether its input was longer than MAX_INPUT.
+pub fn begin(too_long: bool) -> Standing
+    ensures { λ r. ⌜ r ≡ begun «too_long» ⌝ }
+{
+    let place = Place { at: 0, stage: 0 };
+    let session = file::unopened();
+    Standing {
+        place,
+        number: 0,
+        too_long,
+        ended: false,
+        session,
+    }
+}
+
+// A part: what its writer answered, and where the listing then stands.
+pub struct Part {
+    pub written: Written,
+    pub standing: Standing,
+}
+
+// The next part at the start of out, and nothing once the last line was put; where it is longer than out, 27, and the listing stands where it stood.
+pub fn put_next(input: &[u8], s: Standing, out: &mut [u8]) -> Part
+    ensures { λ r. ⌜ PartPut (now (input .entry)) s r (now (out .entry)) (now (out .exit)) ⌝ }
+{
+    if s.ended {
+        let written = Written { refusal: 0, len: 0 };
+        return Part {
+            written,
+            standing: s,
+        };
+    }
+    let next = next_of(input, s);
+    let written = if next.standing.ended {
+        listing::put_end(
+            out,
+            s.place.stage != records::NO_KIND,
+            s.session.phase,
+            s.session.skipped_fills,
+        )
+    } else {
+        listing::put_events(out, s.number, next.said)
+    };
+    if written.refusal != 0 {
+        return Part {
+            written,
+            standing: s,
+        };
+    }
+    let standing = next.standing;
+    Part { written, standing }
+}
+
+// What is said next, if anything but the last line, and where the listing then stands.
+struct Next {
+    said: Events,
+    standing: Standing,
+}
+
+fn next_of(input: &[u8], s: Standing) -> Next
+    requires { ⌜ s .ended ≡ false ⌝ }
+    ensures { λ r. ⌜ NextOf (now (input .entry)) s r ⌝ }
+{
+    if s.too_long {
+        return whole_refused(s, input.len());
+    }
+    if s.place.at < input.len() {
+        return record_next(input, s);
+    }
+    let mut standing = s;
+    standing.ended = true;
+    let said = Events::none();
+    Next { said, standing }
+}
+
+// 26 is said of the whole input, and nothing of it is read.
+fn whole_refused(s: Standing, end: usize) -> Next
+    ensures { λ r. ⌜ r ≡ wholeRefused s end ⌝ }
+{
+    let none = Events::none();
+    let said = none.push(Event::Refused(crate::INPUT_TOO_LONG));
+    let mut standing = s;
+    let place = Place {
+        at: end,
+        stage: s.place.stage,
+    };
+    standing.place = place;
+    standing.number = std::num::wrapping_add_u64(s.number, 1);
+    standing.too_long = false;
+    Next { said, standing }
+}
+
+// The next record.
+fn record_next(input: &[u8], s: Standing) -> Next
+    requires { ⌜ s .place .at < length (now input) ⌝ }
+    ensures { λ r. ⌜ RecordNext (now (input .entry)) s r ⌝ }
+{
+    let place = s.place;
+    let session = s.session;
+    let rest = records::rest_of(input, place.at);
+    let head = records::head_of(rest, place.stage);
+    let mark = head.mark;
+    let f = fields::read(mark, records::own_bytes(rest, head.width));
+    let refusal = file::early_refusal(head.refusal, f);
+    let order = file::is_kind(refusal, f.kind, records::ORDER);
+    let call = file::call_of(refusal, f.kind, f.call);
+    let change = session.change(order, f.row, call);
+    let step = file::step_of(refusal, f.kind, change, session.order_count);
+    let turn = turn_of(session, step, f);
+    let said = turn.said;
+    let after = turn.session;
+    let standing = Standing {
+        place: file::place_after(place, head, step.refusal, input.len()),
+        number: std::num::wrapping_add_u64(s.number, 1),
+        too_long: s.too_long,
+        ended: s.ended,
+        session: after,
+    };
+    Next { said, standing }
+}
+
+// The session after a record, and what is said of it.
+struct Turned {
+    session: Session,
+    said: Events,
+}
+
+fn turn_of(session: Session, step: Step, f: Fields) -> Turned
+    ensures { λ r. ⌜ r ≡ turnOf session step f ⌝ }
+{
+    let few = step.said;
+    if step.undecided {
+        let a = session.apply(f.call);
+        let after = a.session;
+        return Turned {
+            session: after,
+            said: file::said_all(a),
+        };
+    }
+    if step.opens {
+        return Turned {
+            session: Session::new(f.params, f.given),
+            said: few.all(),
+        };
+    }
+    Turned {
+        session: session.changed(step.change),
+        said: few.all(),
+    }
+}
