@@ -1,36 +1,24 @@
--- The loop over a file's records: it moves forward, and has passed at least as many bytes as records. Assumes nothing.
-use mathlib.Core.Path.{_≡_, refl, ap, _∙_}
+-- The loop over the parts of a listing: each leaves fewer, and lies within the buffer. Assumes nothing.
+use mathlib.Core.Path.{_≡_, ap, _∙_}
+use mathlib.Core.Bool.{Bool, false}
 use mathlib.Core.List.{List}
-use Prim.Native.Nat.{ℕ, _+_, _-_, _≤_, _<_}
-use native.Mathlib.Omega.{arith}
-use lib.ListN.{length, drop, length-append}
-use Rattle.listing.specs.Writing.{Puts}
-use Rattle.session_file.specs.declared.runner.Runner.{Runner}
-use Rattle.session_file.specs.declared.runner.Turn.{Turn}
-use Rattle.session_file.specs.Runner.{start, turnAt}
-use Rattle.session_file.proofs.Forward.{Onward, onward}
+use Prim.Native.Nat.{ℕ, _≤_, _<_}
+use lib.ListN.{length}
+use borrow.Author.Tests.{eq-eqb}
+use Rattle.listing.specs.declared.Written.{Written}
+use Rattle.listing.specs.Lines.{maxRecord}
+use Rattle.listing.specs.Writing.{written, Writes}
+use Rattle.listing.proofs.Answers.{answer-small}
+use Rattle.session_file.specs.declared.parts.Standing.{Standing}
+use Rattle.session_file.specs.declared.parts.Part.{Part}
+use Rattle.session_file.specs.Parts.{PartPut, partsLeft}
+use Rattle.session_file.proofs.PartByPart.{parts-fewer}
 
-pub record Showing (input : List ℕ) (r : Runner) (number : ℕ) : Type 0 where
-  pub within : r .at ≤ length input
-  pub passed : number ≤ r .at
+pub showing-less : (input : List ℕ) {s : Standing} {r : Part} {before left : List ℕ} → s .ended ≡ false → maxRecord ≤ length before → PartPut input s r before left
+    → partsLeft input (r .standing) < partsLeft input s
+showing-less input {s} h room p = rw (p .standing, eq-eqb _ 0 (p .fits room)) (parts-fewer input s h)
 
-start-at : start .at ≡ 0
-unfolding start
-start-at = refl
-
-pub showing-start : (input : List ℕ) (r : Runner) → r ≡ start → Showing input r 0
-showing-start input r e = let z : r .at ≡ 0 = ap (λ (x : Runner). x .at) e ∙ start-at in record { within = omega arith; passed = omega arith }
-
-module _ {input : List ℕ} {r : Runner} {number : ℕ} (t : Turn) (h : r .at < length input) (is : t ≡ turnAt input r) (s : Showing input r number) where
-  moved : Onward input r (t .runner)
-  moved = rw is (onward input r h)
-
-  pub showing-less : length input - t .runner .at < length input - r .at
-  showing-less = omega (arith, moved .on, moved .within)
-
-  pub showing-more : Showing input (t .runner) (number + 1)
-  showing-more = record { within = moved .within; passed = omega (arith, moved .on, s .passed) }
-
--- what was written from the start lies within the buffer
-pub written-within : {text before left : List ℕ} {n : ℕ} → Puts text 0 n before left → n ≤ length left
-written-within {text} {before} {left} {n} w = rw (w .bytes) (omega (arith, w .place, length-append text (drop (0 + length text) before)))
+-- what a writer says that it wrote lies within the buffer
+pub written-within : {text before left : List ℕ} {w : Written} → Writes text w before left → length left ≡ length before → w .len ≤ length left
+unfolding written
+written-within v same = rw same (answer-small (v .answer) .1)

@@ -1,68 +1,86 @@
-// Reads a session file from standard input and writes its listing to standard output, record by record.
+// Reads a session file from standard input and writes its listing to standard output, part by part.
+ghost use Prim.Native.Nat.{_≤_};
+ghost use lib.ListN.{length};
+ghost use Rattle.clearing.specs.Input.{filled};
 use libc::STDERR_FILENO;
 use libc::STDIN_FILENO;
 use libc::STDOUT_FILENO;
-use listing::Record;
-use session_file::runner;
-use session_file::runner::Runner;
+use session_file::parts;
 
 fn main() {
+    if 1 < os::arg_count() {
+        complain(
+            b"usage: clearing < FILE (reads a session file from standard input, writes its listing to standard output)\n",
+        );
+        return;
+    }
     let mut buffer = [0u8; 65536];
-    let n = io::read_full(STDIN_FILENO, &mut buffer);
-    let mut one = [0u8; 1];
-    let more = libc::read(STDIN_FILENO, &mut one);
-    if more == 0 {
-        show(&buffer[..n]);
-        return;
+    match read_input(&mut buffer) {
+        Input::Whole(n) => show(&buffer[..n], false),
+        Input::TooLong => show(&buffer, true),
+        Input::Unreadable => complain(b"clearing: standard input could not be read\n"),
     }
-    if more < 0 {
-        complain(b"clearing: standard input could not be read\n");
-        return;
-    }
-    if n == session_file::MAX_INPUT {
-        show_too_long();
-        return;
-    }
-    complain(b"clearing: standard input was interrupted\n");
 }
 
 fn complain(text: &[u8]) {
     io::write_all(STDERR_FILENO, text);
 }
 
-// Each record's lines as it is run, then the last line. A failed write is said, and nothing after it is written.
-fn show(input: &[u8]) {
-    let mut r = runner::begin();
-    let mut number: u64 = 0;
-    while r.at < input.len() {
-        let t = runner::next_turn(r, input);
-        let said = t.said;
-        if !show_record(number, said) {
+// What reading standard input came to.
+enum Input {
+    // All of it is in the buffer, so many bytes.
+    Whole(usize),
+    // There is more than the buffer holds.
+    TooLong,
+    // A read failed, if only the last: what was read before may be a part of the file.
+    Unreadable,
+}
+
+// Fills the buffer from its start. No contract can say which bytes come.
+fn read_input(buffer: &mut [u8]) -> Input
+    ensures { λ r. ⌜ filled r ≤ length (now (buffer .exit)) ⌝ }
+{
+    let mut n = 0;
+    while n < buffer.len() {
+        let got = libc::read(STDIN_FILENO, &mut buffer[n..]);
+        if got < 0 {
+            return Input::Unreadable;
+        }
+        let more = io::count(got, &buffer[n..]);
+        if more == 0 {
+            return Input::Whole(n);
+        }
+        n += more;
+    }
+    read_past(n)
+}
+
+// With the buffer full: whether the input ends here.
+fn read_past(n: usize) -> Input
+    ensures { λ r. ⌜ filled r ≤ n ⌝ }
+{
+    let mut one = [0u8; 1];
+    let got = libc::read(STDIN_FILENO, &mut one);
+    if got < 0 {
+        return Input::Unreadable;
+    }
+    if got == 0 {
+        return Input::Whole(n);
+    }
+    Input::TooLong
+}
+
+// The listing, part by part: the buffer has room for any part. A failed write is said, and nothing after it is written.
+fn show(input: &[u8], too_long: bool) {
+    let mut out = [0u8; listing::ROOM];
+    let mut s = parts::begin(too_long);
+    while !s.ended {
+        let part = parts::put_next(input, s, &mut out);
+        let len = part.written.len;
+        if !put(&out[..len]) {
             return;
         }
-        number = number + 1;
-        r = t.runner;
-    }
-    show_end(r);
-}
-
-fn show_record(number: u64, said: Record) -> bool {
-    let mut out = [0u8; listing::ROOM];
-    let len = listing::print_record(&mut out, number, said);
-    put(&out[..len])
-}
-
-fn show_end(r: Runner) {
-    let s = r.session;
-    let mut out = [0u8; listing::ROOM];
-    let len = listing::print_end(&mut out, r.stage != 0, s.phase, s.skipped_fills);
-    put(&out[..len]);
-}
-
-// The listing of an input above the limit.
-fn show_too_long() {
-    if show_record(0, runner::refused(session_file::INPUT_TOO_LONG)) {
-        show_end(runner::begin());
+        s = part.standing;
     }
 }
 

@@ -1,4 +1,10 @@
 // A session and a call, read from a block of bytes.
+ghost use mathlib.Core.Path.{_≡_};
+ghost use Prim.Native.Nat.{_<_};
+ghost use Rattle.laws.specs.Lists.{table};
+ghost use Rattle.credit_math.specs.Limits.{maxOrders};
+ghost use Rattle.book.specs.Limits.{maxFills};
+ghost use Rattle.single_calls.specs.Image.{paramsIn, givenIn, clearedIn, orderIn, fillIn, sessionIn, callIn};
 use auction_engine::CallRecord;
 use auction_engine::Cleared;
 use auction_engine::Session;
@@ -7,16 +13,17 @@ use book::Given;
 use book::Order;
 use book::Params;
 use session_file::bytes;
-ghost use Prim.Native.Nat.{_≤_};
 
-// The first order, and the bytes of each; the count of fills, the first fill, and the bytes of each; the call.
-const ORDERS_AT: usize = 142;
+// The count of orders, the first order, and the bytes of each; the same of fills; the call.
+const ORDER_COUNT_AT: usize = 141;
+
+const ORDERS_AT: usize = ORDER_COUNT_AT + 1;
 
 const ORDER: usize = 92;
 
-const COUNT_AT: usize = ORDERS_AT + ORDER * Session::MAX_ORDERS;
+const FILL_COUNT_AT: usize = ORDERS_AT + ORDER * Session::MAX_ORDERS;
 
-const FILLS_AT: usize = COUNT_AT + 1;
+const FILLS_AT: usize = FILL_COUNT_AT + 1;
 
 const FILL: usize = 74;
 
@@ -25,7 +32,10 @@ const CALL_AT: usize = FILLS_AT + FILL * Session::MAX_FILLS;
 // A whole block.
 pub const BLOCK: usize = CALL_AT + 75;
 
-pub fn session_in(block: &[u8]) -> Session {
+// Every place of the arrays is read; the counts may be above the limits.
+pub fn session_in(block: &[u8]) -> Session
+    ensures { λ r. ⌜ r ≡ sessionIn (now (block .entry)) ⌝ }
+{
     let params = params_in(block);
     let given = given_in(block);
     let cleared = cleared_in(block);
@@ -40,13 +50,15 @@ pub fn session_in(block: &[u8]) -> Session {
         fills_settled: bytes::u32_at(block, 133),
         skipped_fills: bytes::u32_at(block, 137),
         orders,
-        order_count: bytes::u8_at(block, 141) as usize,
+        order_count: bytes::u8_at(block, ORDER_COUNT_AT) as usize,
         fills,
-        fill_count: bytes::u8_at(block, COUNT_AT) as usize,
+        fill_count: bytes::u8_at(block, FILL_COUNT_AT) as usize,
     }
 }
 
-fn params_in(block: &[u8]) -> Params {
+fn params_in(block: &[u8]) -> Params
+    ensures { λ r. ⌜ r ≡ paramsIn (now (block .entry)) ⌝ }
+{
     let rofr_authority = bytes::key_at(block, 34);
     Params {
         reveal_end: bytes::time_at(block, 0),
@@ -59,7 +71,9 @@ fn params_in(block: &[u8]) -> Params {
     }
 }
 
-fn given_in(block: &[u8]) -> Given {
+fn given_in(block: &[u8]) -> Given
+    ensures { λ r. ⌜ r ≡ givenIn (now (block .entry)) ⌝ }
+{
     Given {
         mark: bytes::flag_at(block, 66),
         reserve: bytes::u64_at(block, 67),
@@ -69,7 +83,9 @@ fn given_in(block: &[u8]) -> Given {
     }
 }
 
-fn cleared_in(block: &[u8]) -> Cleared {
+fn cleared_in(block: &[u8]) -> Cleared
+    ensures { λ r. ⌜ r ≡ clearedIn (now (block .entry)) ⌝ }
+{
     Cleared {
         clear_price: bytes::u64_at(block, 93),
         cleared_volume: bytes::u64_at(block, 101),
@@ -78,19 +94,23 @@ fn cleared_in(block: &[u8]) -> Cleared {
     }
 }
 
-fn orders_in(block: &[u8]) -> [Order; Session::MAX_ORDERS] {
+fn orders_in(block: &[u8]) -> [Order; Session::MAX_ORDERS]
+    ensures { λ r. ⌜ r ≡ table (orderIn (now (block .entry))) maxOrders ⌝ }
+{
     let mut orders = [Order::empty(); Session::MAX_ORDERS];
     let mut i = 0;
     while i < Session::MAX_ORDERS {
-        orders[i] = order_in(block, ORDERS_AT + ORDER * i);
+        orders[i] = order_in(block, i);
         i += 1;
     }
     orders
 }
 
-fn order_in(block: &[u8], at: usize) -> Order
-    requires { ⌜ at ≤ 4096 ⌝ }
+fn order_in(block: &[u8], i: usize) -> Order
+    requires { ⌜ i < maxOrders ⌝ }
+    ensures { λ r. ⌜ r ≡ orderIn (now (block .entry)) i ⌝ }
 {
+    let at = ORDERS_AT + ORDER * i;
     let owner = bytes::key_at(block, at);
     let investor_id = bytes::id_at(block, at + 76);
     Order {
@@ -108,19 +128,23 @@ fn order_in(block: &[u8], at: usize) -> Order
     }
 }
 
-fn fills_in(block: &[u8]) -> [Fill; Session::MAX_FILLS] {
+fn fills_in(block: &[u8]) -> [Fill; Session::MAX_FILLS]
+    ensures { λ r. ⌜ r ≡ table (fillIn (now (block .entry))) maxFills ⌝ }
+{
     let mut fills = [Fill::empty(); Session::MAX_FILLS];
     let mut i = 0;
     while i < Session::MAX_FILLS {
-        fills[i] = fill_in(block, FILLS_AT + FILL * i);
+        fills[i] = fill_in(block, i);
         i += 1;
     }
     fills
 }
 
-fn fill_in(block: &[u8], at: usize) -> Fill
-    requires { ⌜ at ≤ 4096 ⌝ }
+fn fill_in(block: &[u8], i: usize) -> Fill
+    requires { ⌜ i < maxFills ⌝ }
+    ensures { λ r. ⌜ r ≡ fillIn (now (block .entry)) i ⌝ }
 {
+    let at = FILLS_AT + FILL * i;
     let buyer = bytes::key_at(block, at);
     let seller = bytes::key_at(block, at + 32);
     Fill {
@@ -132,7 +156,9 @@ fn fill_in(block: &[u8], at: usize) -> Fill
     }
 }
 
-pub fn call_in(block: &[u8]) -> CallRecord {
+pub fn call_in(block: &[u8]) -> CallRecord
+    ensures { λ r. ⌜ r ≡ callIn (now (block .entry)) ⌝ }
+{
     let id = bytes::id_at(block, CALL_AT + 12);
     let wallet = bytes::key_at(block, CALL_AT + 29);
     CallRecord {

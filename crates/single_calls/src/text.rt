@@ -1,13 +1,18 @@
-// The words of an answer.
-
+// The words of an answer. What a function writes is free in its contract: no contract can say what is written, and the comparison reads every
+// byte of it.
+ghost use mathlib.Core.Path.{_≡_};
+ghost use mathlib.Core.Bool.{not, _||_};
+ghost use Prim.Native.Nat.{_<_};
+ghost use lib.Dec.{eqb};
+ghost use Rattle.events.specs.Events.{maxEvents};
 use auction_engine::Session;
 use book::Fill;
 use book::Order;
+use book::error;
 use events::Event;
 use events::Events;
 use events::Print;
 use libc::STDOUT_FILENO;
-ghost use Prim.Native.Nat.{_<_};
 
 pub fn say(text: &[u8]) {
     io::write_all(STDOUT_FILENO, text);
@@ -44,11 +49,13 @@ fn hex(byte: u8) {
 }
 
 // The oracle says no session for 9 and 4.
-pub fn is_shown(refusal: u8) -> bool {
-    if refusal == 9 {
+pub fn is_shown(refusal: u8) -> bool
+    ensures { λ r. ⌜ r ≡ not (eqb refusal 9 || eqb refusal 4) ⌝ }
+{
+    if refusal == error::OVER_LIMIT {
         return false;
     }
-    refusal != 4
+    refusal != error::BAD_FIELD
 }
 
 // The events of an accepted call, or `none`.
@@ -66,7 +73,7 @@ pub fn put_events(events: Events) {
 }
 
 fn put_event_after(i: usize, events: Events)
-    requires { ⌜ i < 25 ⌝ }
+    requires { ⌜ i < maxEvents ⌝ }
 {
     if 0 < i {
         say(b";");
@@ -79,11 +86,10 @@ fn put_event_after(i: usize, events: Events)
 fn put_event(e: Event) {
     match e {
         Event::Nothing => say(b"none"),
-        Event::OrderScreened { order, exclusion } => put_two(
-            b"screen",
-            order as u64,
-            exclusion as u64,
-        ),
+        Event::OrderScreened {
+            order: i,
+            exclusion: e,
+        } => put_two(b"screen", i as u64, e as u64),
         Event::Cleared {
             price,
             volume,
@@ -105,14 +111,16 @@ fn put_event(e: Event) {
         } => { put_four(b"rofr", fill as u64, new as u64, qty, price) }
         Event::RofrClosed(qty) => put_one(b"close", qty),
         Event::FillSettled { fill, qty, price } => put_three(b"settle", fill as u64, qty, price),
-        Event::FillSkipped { fill, qty, reason } => put_three(
-            b"skip",
-            fill as u64,
+        Event::FillSkipped {
+            fill: f,
             qty,
-            reason as u64,
-        ),
+            reason: r,
+        } => put_three(b"skip", f as u64, qty, r as u64),
         Event::ClearingPrint(p) => put_print(p),
         Event::PhaseChanged { from, to } => put_two(b"phase", from as u64, to as u64),
+        Event::Opened => say(b"open"),
+        Event::Ordered(order) => put_one(b"order", order),
+        Event::Refused(number) => put_one(b"refused", number as u64),
     }
 }
 

@@ -1,49 +1,58 @@
--- `clearing::show` is safe and ends: each record moves the runner forward.
+-- `clearing::show` is safe and ends: each part leaves fewer, and lies within the buffer.
 -- Assumes nothing.
-use Prim.Native.Nat.{_-_}
+use mathlib.Core.Path.{_≡_, sym, _∙_}
 use native.Mathlib.Omega.{arith}
 use lib.ListN.{length}
+use lib.Seq.{length-take-le}
 use borrow.Author.Needs.{needs}
-use Rattle.clearing.proofs.Showing.{Showing, showing-start, showing-less, showing-more}
+use borrow.Author.Tests.{not-true}
+use Rattle.listing.specs.Lines.{maxRecord}
+use Rattle.session_file.specs.Parts.{partsLeft}
+use Rattle.clearing.proofs.Showing.{showing-less, written-within}
 use Rattle.clearing.proofs.show.Statement.{statement}
 use Rattle.clearing.proofs.show.Tie as tie
 
 abbrev Inv-loop : tie.InvT-loop
-Inv-loop input r₀ number₀ r number = Showing input r number
+Inv-loop input too-long out₀ s₀ out s = length out ≡ maxRecord
 
 abbrev μ-loop : tie.MeasureT-loop
-μ-loop input r₀ number₀ r number = length input - r .at
+μ-loop input too-long out₀ s₀ out s = partsLeft input s
 
 begin-requires : tie.Need-begin-requires Inv-loop μ-loop
 begin-requires c κs = search needs
 
 loop-holds : tie.Need-loop-holds Inv-loop μ-loop
-loop-holds c = showing-start _ _ (c .begin .ensures)
+loop-holds c = search needs
 
-next-turn-requires : tie.Need-next-turn-requires Inv-loop μ-loop
-next-turn-requires c κs = search needs
+slice-aggregate-put-next : tie.Need-slice-aggregate-put-next Inv-loop μ-loop
+slice-aggregate-put-next c = search needs
 
-show-record-requires : tie.Need-show-record-requires Inv-loop μ-loop
-show-record-requires c κs = search needs
+put-next-requires : tie.Need-put-next-requires Inv-loop μ-loop
+put-next-requires c κs = search needs
+
+array-share-prefix-out : tie.Need-array-share-prefix-out Inv-loop μ-loop
+array-share-prefix-out c = let p = c .before .put-next in written-within (p .ensures .writes) (p .kept .1 .1 .0)
+
+slice-aggregate-put : tie.Need-slice-aggregate-put Inv-loop μ-loop
+slice-aggregate-put c = sym (length-take-le _ _ (array-share-prefix-out (c .before)))
+
+put-requires : tie.Need-put-requires Inv-loop μ-loop
+put-requires c κs = search needs
 
 returns : tie.Need-returns Inv-loop μ-loop
 returns c = search needs
 
-add-number : tie.Need-add-number Inv-loop μ-loop
-add-number c = let l = c .before .before .before .before .before .before in omega (arith, l .loop .inv .within, l .loop .inv .passed, c .before .before .before .before .if1 .taken)
-
 loop-less : tie.Need-loop-less Inv-loop μ-loop
 loop-less c =
-    let n = c .before .before .before .before in
-    showing-less (n .next-turn .result) (n .before .if1 .taken) (n .next-turn .ensures) (n .before .before .before .loop .inv)
+    let p = c .before .before .before .before .before in
+    let d = p .before .before in
+    let l = d .before .before in
+    showing-less (l .before .before .before .args .input .now) (not-true _ (d .if1 .taken)) (omega (arith, l .loop .inv)) (p .put-next .ensures)
 
 loop-again : tie.Need-loop-again Inv-loop μ-loop
 loop-again c =
-    let n = c .before .before .before .before in
-    showing-more (n .next-turn .result) (n .before .if1 .taken) (n .next-turn .ensures) (n .before .before .before .loop .inv)
-
-show-end-requires : tie.Need-show-end-requires Inv-loop μ-loop
-show-end-requires c κs = search needs
+    let p = c .before .before .before .before .before in
+    p .put-next .kept .1 .1 .0 ∙ p .before .before .before .before .loop .inv
 
 returns-2 : tie.Need-returns-2 Inv-loop μ-loop
 returns-2 c = search needs
@@ -56,11 +65,12 @@ show-spec =
     μ-loop
     begin-requires
     loop-holds
-    next-turn-requires
-    show-record-requires
+    slice-aggregate-put-next
+    put-next-requires
+    array-share-prefix-out
+    slice-aggregate-put
+    put-requires
     returns
-    add-number
     loop-less
     loop-again
-    show-end-requires
     returns-2)

@@ -1,13 +1,18 @@
--- `single_calls::image::fills_in` is safe and ends. The loop: `i` is at most the number of fills.
+-- `single_calls::image::fills_in` meets its contract. The loop's invariant: the fills passed are read.
 -- Assumes nothing.
+use mathlib.Core.Path.{refl}
 use Prim.Native.Nat.{_≤_, _-_}
+use native.Mathlib.Omega.{arith}
 use borrow.Author.Needs.{needs}
+use Rattle.laws.proofs.Lists.{Writing, writing, writing-more, written}
 use Rattle.book.specs.Limits.{maxFills}
+use Rattle.book.specs.Book.{noFill}
+use Rattle.single_calls.specs.Image.{fillIn}
 use Rattle.single_calls.proofs.image.fills_in.Statement.{statement}
 use Rattle.single_calls.proofs.image.fills_in.Tie as tie
 
 abbrev Inv-loop : tie.InvT-loop
-Inv-loop block fills₀ i₀ fills i = i ≤ maxFills
+Inv-loop block fills₀ i₀ fills i = (i ≤ maxFills) × Writing (fillIn block) noFill maxFills i fills
 
 abbrev μ-loop : tie.MeasureT-loop
 μ-loop block fills₀ i₀ fills i = maxFills - i
@@ -16,13 +21,7 @@ empty-requires : tie.Need-empty-requires Inv-loop μ-loop
 empty-requires c κs = search needs
 
 loop-holds : tie.Need-loop-holds Inv-loop μ-loop
-loop-holds c = search needs
-
-mul-fill-in : tie.Need-mul-fill-in Inv-loop μ-loop
-mul-fill-in c = search needs
-
-add-fill-in : tie.Need-add-fill-in Inv-loop μ-loop
-add-fill-in c = search needs
+loop-holds c = (search needs, writing refl)
 
 fill-in-requires : tie.Need-fill-in-requires Inv-loop μ-loop
 fill-in-requires c κs = search needs
@@ -40,10 +39,10 @@ loop-less : tie.Need-loop-less Inv-loop μ-loop
 loop-less c = search needs
 
 loop-again : tie.Need-loop-again Inv-loop μ-loop
-loop-again c = search needs
+loop-again c = (search needs, writing-more (c .fill-in .result) (c .before .before .loop .inv .1) (search needs) (c .fill-in .ensures))
 
 returns : tie.Need-returns Inv-loop μ-loop
-returns c = search needs
+returns c = written (c .before .loop .inv .1) (search needs)
 
 pub fills-in-spec : {M : Type 1} → statement M
 fills-in-spec =
@@ -53,8 +52,6 @@ fills-in-spec =
     μ-loop
     empty-requires
     loop-holds
-    mul-fill-in
-    add-fill-in
     fill-in-requires
     mul-fills
     array-set-from-fills

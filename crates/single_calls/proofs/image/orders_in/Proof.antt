@@ -1,13 +1,18 @@
--- `single_calls::image::orders_in` is safe and ends. The loop: `i` is at most the number of orders.
+-- `single_calls::image::orders_in` meets its contract. The loop's invariant: the orders passed are read.
 -- Assumes nothing.
+use mathlib.Core.Path.{refl}
 use Prim.Native.Nat.{_≤_, _-_}
+use native.Mathlib.Omega.{arith}
 use borrow.Author.Needs.{needs}
+use Rattle.laws.proofs.Lists.{Writing, writing, writing-more, written}
 use Rattle.credit_math.specs.Limits.{maxOrders}
+use Rattle.book.specs.Book.{noOrder}
+use Rattle.single_calls.specs.Image.{orderIn}
 use Rattle.single_calls.proofs.image.orders_in.Statement.{statement}
 use Rattle.single_calls.proofs.image.orders_in.Tie as tie
 
 abbrev Inv-loop : tie.InvT-loop
-Inv-loop block orders₀ i₀ orders i = i ≤ maxOrders
+Inv-loop block orders₀ i₀ orders i = (i ≤ maxOrders) × Writing (orderIn block) noOrder maxOrders i orders
 
 abbrev μ-loop : tie.MeasureT-loop
 μ-loop block orders₀ i₀ orders i = maxOrders - i
@@ -16,13 +21,7 @@ empty-requires : tie.Need-empty-requires Inv-loop μ-loop
 empty-requires c κs = search needs
 
 loop-holds : tie.Need-loop-holds Inv-loop μ-loop
-loop-holds c = search needs
-
-mul-order-in : tie.Need-mul-order-in Inv-loop μ-loop
-mul-order-in c = search needs
-
-add-order-in : tie.Need-add-order-in Inv-loop μ-loop
-add-order-in c = search needs
+loop-holds c = (search needs, writing refl)
 
 order-in-requires : tie.Need-order-in-requires Inv-loop μ-loop
 order-in-requires c κs = search needs
@@ -40,10 +39,10 @@ loop-less : tie.Need-loop-less Inv-loop μ-loop
 loop-less c = search needs
 
 loop-again : tie.Need-loop-again Inv-loop μ-loop
-loop-again c = search needs
+loop-again c = (search needs, writing-more (c .order-in .result) (c .before .before .loop .inv .1) (search needs) (c .order-in .ensures))
 
 returns : tie.Need-returns Inv-loop μ-loop
-returns c = search needs
+returns c = written (c .before .loop .inv .1) (search needs)
 
 pub orders-in-spec : {M : Type 1} → statement M
 orders-in-spec =
@@ -53,8 +52,6 @@ orders-in-spec =
     μ-loop
     empty-requires
     loop-holds
-    mul-order-in
-    add-order-in
     order-in-requires
     mul-orders
     array-set-from-orders

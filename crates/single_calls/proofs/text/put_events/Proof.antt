@@ -2,14 +2,15 @@
 -- Assumes nothing.
 use Prim.Native.Nat.{_≤_, _-_}
 use borrow.Author.Needs.{needs}
+use Rattle.events.specs.Events.{maxEvents}
 use Rattle.single_calls.proofs.text.put_events.Statement.{statement}
 use Rattle.single_calls.proofs.text.put_events.Tie as tie
 
 abbrev Inv-loop : tie.InvT-loop
-Inv-loop events i₀ i = i ≤ 25
+Inv-loop events i₀ i = i ≤ maxEvents
 
 abbrev μ-loop : tie.MeasureT-loop
-μ-loop events i₀ i = 25 - i
+μ-loop events i₀ i = maxEvents - i
 
 slice-aggregate-say : tie.Need-slice-aggregate-say Inv-loop μ-loop
 slice-aggregate-say c = search needs

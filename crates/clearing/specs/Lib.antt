@@ -1,0 +1,2 @@
+-- What the program's reading of standard input says of its buffer.
+pub mod Input

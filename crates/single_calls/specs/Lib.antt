@@ -1,0 +1,2 @@
+-- What a block of bytes says.
+pub mod Image
