@@ -16,6 +16,8 @@ import subprocess
 import sys
 import tempfile
 
+if len(sys.argv) != 2:
+    sys.exit(__doc__)
 oracle = sys.argv[1]
 top = os.path.dirname(os.path.dirname(os.path.abspath(__file__)))
 sys.path.insert(0, os.path.join(top, "examples"))

@@ -9,9 +9,15 @@ use corpus::{courses, kinds, records, screened, Kind, FULL, NOW, SHORT, STAGES};
 use oracle::random::Random;
 use oracle::record::Call;
 use oracle::MAX_ORDERS;
+use std::env;
+use std::process::ExitCode;
 use timing::{nanoseconds, SIDES};
 
-fn main() {
+fn main() -> ExitCode {
+    if env::args().len() > 1 {
+        eprintln!("usage: bench");
+        return ExitCode::from(2);
+    }
     let [ours, source] = SIDES;
     println!("                                {ours:>26}   {source:>26}");
     println!(
@@ -27,6 +33,7 @@ fn main() {
     }
     println!("a clear of so many orders, ns  {ours:>14} {source:>14}   ratio");
     (2..=MAX_ORDERS).step_by(2).for_each(clear);
+    ExitCode::SUCCESS
 }
 
 fn row(kind: &Kind) {

@@ -64,7 +64,7 @@ fn call(b: &mut Vec<u8>, c: &Call) {
     b.push(c.kind);
     b.extend(c.now.to_le_bytes());
     b.extend([c.order, c.side, c.verdict]);
-    b.extend(bytes::<16>(c.id_given()));
+    b.extend(bytes::<16>(c.id));
     b.push(c.max_fills);
     b.extend(bytes::<32>(c.wallet));
     b.extend(c.fill.to_le_bytes());

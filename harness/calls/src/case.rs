@@ -37,7 +37,7 @@ pub struct Header {
 
 /// All that a call of any kind carries.
 pub struct Call {
-    /// Its place in `MARKS`.
+    /// Its place in `MARKS`, or any number above.
     pub kind: u8,
     pub now: i64,
     pub order: u8,
@@ -67,13 +67,9 @@ pub struct Case {
 }
 
 impl Call {
-    /// Without has-id the id is zeros.
-    pub fn id_given(&self) -> u8 {
-        if self.has_id {
-            self.id
-        } else {
-            0
-        }
+    /// The mark of its record; a kind that no record has is marked `--`.
+    pub fn mark(&self) -> &'static str {
+        MARKS.get(usize::from(self.kind)).unwrap_or(&"--")
     }
 }
 

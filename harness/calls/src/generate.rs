@@ -9,7 +9,7 @@ const ALLOCATE: u8 = 2;
 const FINISH: u8 = 7;
 
 pub fn case(r: &mut Random) -> Case {
-    let kind = r.below(MARKS.len() as u64) as u8;
+    let kind = kind(r);
     let header = header(r);
     let all_settled = kind == FINISH && !r.one_in(3);
     let wide = r.one_in(10);
@@ -32,6 +32,16 @@ pub fn case(r: &mut Random) -> Case {
         header,
         orders,
         fills,
+    }
+}
+
+/// One of the nine calls, or at times a number that is none, up to the highest.
+fn kind(r: &mut Random) -> u8 {
+    let calls = MARKS.len() as u64;
+    match r.below(12) {
+        0 => (calls + r.below(256 - calls)) as u8,
+        1 => r.pick(&[MARKS.len() as u8, u8::MAX]),
+        _ => r.below(calls) as u8,
     }
 }
 
@@ -109,14 +119,15 @@ fn phase(r: &mut Random, kind: u8) -> u8 {
 fn call(r: &mut Random, kind: u8, header: &Header, orders: &[Order], fills: usize) -> Call {
     let order = r.below(orders.len() as u64 + 1) as u8;
     let side = orders.get(usize::from(order)).map_or(0, |o| o.side);
+    let has_id = !r.one_in(5);
     Call {
         kind,
         now: now(r, header),
         order,
         side: if r.one_in(6) { r.below(3) as u8 } else { side },
         verdict: if r.one_in(3) { r.below(8) as u8 } else { 0 },
-        has_id: !r.one_in(5),
-        id: r.below(4) as u8,
+        has_id,
+        id: if has_id || r.one_in(10) { r.below(4) as u8 } else { 0 },
         max_fills: r.pick(&[0, 1, 2, 5, 24, 255]),
         wallet: if r.one_in(3) { r.below(3) as u8 } else { header.authority },
         fill: r.below(fills as u64 + 1) as u32,

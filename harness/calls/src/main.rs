@@ -2,37 +2,39 @@
 //!
 //!     calls PROGRAM [--seed S] [--cases N]       PROGRAM is the built crate `single_calls`: a block a case in, a line a case out
 //!     calls --write BLOCKS ANSWERS [--seed S] [--cases N]     writes the blocks and the source's answers instead
+mod args;
 mod block;
 mod case;
 mod generate;
 mod numbers;
 mod words;
 
-use case::{Case, MARKS};
+use args::{Args, Mode};
+use case::Case;
 use oracle::random::Random;
 use std::collections::BTreeMap;
-use std::fs;
 use std::io::Write;
-use std::process::{exit, Command, Stdio};
-use std::thread;
+use std::process::{Command, ExitCode, Stdio};
+use std::{env, fs, thread};
 
-fn main() {
-    let args: Vec<String> = std::env::args().collect();
-    let value = |name: &str, or: u64| args.iter().position(|a| a == name).map_or(or, |i| args[i + 1].parse().expect("a number"));
-    let (seed, count) = (value("--seed", 1), value("--cases", 100_000));
-    let mut r = Random(seed);
-    let cases: Vec<Case> = (0..count).map(|_| generate::case(&mut r)).collect();
+fn main() -> ExitCode {
+    let Some(args) = Args::read(env::args().skip(1)) else {
+        eprintln!("usage: calls (PROGRAM | --write BLOCKS ANSWERS) [--seed S] [--cases N]");
+        return ExitCode::from(2);
+    };
+    let mut r = Random(args.seed);
+    let cases: Vec<Case> = (0..args.cases).map(|_| generate::case(&mut r)).collect();
     let source: Vec<String> = cases.iter().map(|c| oracle::single_call::answer(&words::words(c))).collect();
     let blocks: Vec<u8> = cases.iter().flat_map(block::block).collect();
-    if let Some(i) = args.iter().position(|a| a == "--write") {
-        fs::write(&args[i + 1], blocks).expect("the blocks");
-        fs::write(&args[i + 2], source.join("\n") + "\n").expect("the answers");
-        return;
-    }
-    let ours = answers(&args[1], blocks);
-    if !same(&cases, &source, &ours) {
-        exit(1);
-    }
+    let well = match args.mode {
+        Mode::Compare { program } => same(&cases, &source, &answers(&program, blocks)),
+        Mode::Write { blocks: to, answers } => {
+            fs::write(to, blocks).expect("the blocks");
+            fs::write(answers, source.join("\n") + "\n").expect("the answers");
+            true
+        }
+    };
+    ExitCode::from(u8::from(!well))
 }
 
 /// What a program answers to all of its input, one line a case.
@@ -52,7 +54,7 @@ fn same(cases: &[Case], source: &[String], ours: &[String]) -> bool {
     let mut different = 0;
     for (i, case) in cases.iter().enumerate() {
         let refusal = source[i].split('|').next().expect("a refusal");
-        *seen.entry(format!("{} {refusal:>2}", MARKS[usize::from(case.call.kind)])).or_insert(0u64) += 1;
+        *seen.entry(format!("{} {refusal:>2}", case.call.mark())).or_insert(0u64) += 1;
         if ours.get(i) != Some(&source[i]) {
             different += 1;
             if different <= 3 {

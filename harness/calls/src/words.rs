@@ -1,5 +1,5 @@
 //! A case in the oracle's words (`oracle::single_call`).
-use crate::case::{bytes, Call, Case, Fill, Header, Order, MARKS};
+use crate::case::{bytes, Call, Case, Fill, Header, Order};
 
 pub fn words(case: &Case) -> String {
     let f = &case.figures;
@@ -39,9 +39,9 @@ fn fill(f: &Fill) -> String {
 
 fn call(c: &Call) -> String {
     let now = c.now;
-    let arguments = match MARKS[usize::from(c.kind)] {
+    let arguments = match c.mark() {
         "SC" => {
-            let id = hex::<16>(c.id_given());
+            let id = hex::<16>(c.id);
             format!("{now} {} {} {} {} {id}", c.order, c.side, c.verdict, bit(c.has_id))
         }
         "AL" => format!("{now} {}", c.max_fills),
@@ -49,7 +49,8 @@ fn call(c: &Call) -> String {
         "RC" => format!("{now} {}", hex::<32>(c.wallet)),
         "ST" => format!("{}", c.fill),
         "SK" => format!("{now} {} {}", c.fill, c.reason),
+        "--" => format!("{}", c.kind),
         _ => format!("{now}"),
     };
-    format!(" {} {arguments}", MARKS[usize::from(c.kind)])
+    format!(" {} {arguments}", c.mark())
 }

@@ -7,22 +7,22 @@ mod words;
 
 use case::Case;
 use oracle::random::Random;
-use oracle::MAX_ORDERS;
+use oracle::{options, MAX_ORDERS};
 use std::collections::BTreeMap;
-use std::process::exit;
+use std::env;
+use std::process::ExitCode;
 
-fn main() {
-    let args: Vec<String> = std::env::args().collect();
-    let value = |name: &str, or: u64| args.iter().position(|a| a == name).map_or(or, |i| args[i + 1].parse().expect("a number"));
-    let (seed, count) = (value("--seed", 1), value("--cases", 300_000));
+fn main() -> ExitCode {
+    let Some([seed, count]) = options::numbers(env::args().skip(1), [("--seed", 1), ("--cases", 300_000)]) else {
+        eprintln!("usage: functions [--seed S] [--cases N]");
+        return ExitCode::from(2);
+    };
     let different = compare(&mut Random(seed), count);
     let mut r = Random(seed);
     let refused = (0..1000).all(|_| unequal_lengths_are_refused(&mut r));
     println!("unequal lengths: {}", if refused { "refused with 30" } else { "NOT refused with 30" });
     println!("{count} cases, {different} different");
-    if different != 0 || !refused {
-        exit(1);
-    }
+    ExitCode::from(u8::from(different != 0 || !refused))
 }
 
 /// Shows how often each kind of answer was seen and the first differences.

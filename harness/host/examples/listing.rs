@@ -4,7 +4,10 @@ use std::io::{stdout, Write};
 use std::{env, fs};
 
 fn main() -> Result<(), Box<dyn Error>> {
-    let path = env::args().nth(1).ok_or("usage: listing FILE")?;
+    let mut words = env::args().skip(1);
+    let (Some(path), None) = (words.next(), words.next()) else {
+        return Err("usage: listing FILE".into());
+    };
     let file = fs::read(path)?;
     stdout().write_all(&host::listing(&file)?)?;
     Ok(())

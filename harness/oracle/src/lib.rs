@@ -7,6 +7,7 @@ pub mod engine;
 pub mod functions;
 pub mod generate;
 mod listing;
+pub mod options;
 pub mod random;
 mod reader;
 pub mod record;

@@ -7,6 +7,7 @@
 //!     oracle --calls                  one call on any session, a line each (src/single_call.rs)
 //!     oracle --functions              one call of a public function, a line each (src/functions.rs)
 use std::io::{stdin, stdout, BufWriter, Read, Write};
+use std::process::exit;
 use std::{env, fs, io, path::Path};
 
 fn main() -> io::Result<()> {
@@ -15,15 +16,21 @@ fn main() -> io::Result<()> {
         [] => stdout().write_all(oracle::listing(&input()?).as_bytes()),
         ["--states"] => stdout().write_all(oracle::listing_with_states(&input()?).as_bytes()),
         ["--batch", from, to] => batch(Path::new(from), Path::new(to)),
-        ["--gen", seed, count, to] => generate(number(seed), number(count), Path::new(to)),
+        ["--gen", seed, count, to] => match (seed.parse(), count.parse()) {
+            (Ok(seed), Ok(count)) => generate(seed, count, Path::new(to)),
+            _ => usage(),
+        },
         ["--calls"] => answers(oracle::single_call::answer),
         ["--functions"] => answers(oracle::functions::answer),
-        _ => panic!("unknown arguments {args:?}"),
+        _ => usage(),
     }
 }
 
-fn number(word: &str) -> u64 {
-    word.parse().unwrap_or_else(|_| panic!("a number, not {word}"))
+fn usage() -> ! {
+    eprintln!(
+        "usage: oracle [--states | --calls | --functions] < INPUT\n       oracle --batch IN OUT\n       oracle --gen SEED N DIR"
+    );
+    exit(2)
 }
 
 fn input() -> io::Result<Vec<u8>> {

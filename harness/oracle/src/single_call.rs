@@ -2,7 +2,8 @@
 //!
 //! The words: the header's 12 (as in `SH`, keys in hex), phase, clear_price, cleared_volume, reserve_price, reference_mark, rofr_qty,
 //! fills_settled, skipped_fills, the number of orders, of each order 11 (owner side escrowed revealed limit qty alloc alloc_left
-//! screened eligible id), the number of fills, of each fill 5 (buyer seller qty rofr settled), then the record's mark and fields.
+//! screened eligible id), the number of fills, of each fill 5 (buyer seller qty rofr settled), then the record's mark and fields, or `--`
+//! and the kind of a call that no record has.
 //!
 //! The answer: the refusal, `|`, the lines joined with `;`, `|`, the session from its phase on in the same words.
 use crate::engine::{self, Answer, State};
@@ -18,13 +19,13 @@ pub fn answer(line: &str) -> String {
     orders(&mut words, &mut state.session);
     fills(&mut words, &mut state.session);
     let call = call(&mut words);
-    let refusal = match engine::library_refusal(&state, &call) {
-        None if words.outside => Some(4),
-        other => other,
-    };
-    if let Some(number) = refusal {
-        return format!("{number}||");
+    if engine::is_over_a_limit(&state) {
+        return "9||".to_string();
     }
+    // A kind that no record has is an argument outside its values.
+    let Some(call) = call.filter(|call| !words.outside && !engine::is_outside(call)) else {
+        return "4||".to_string();
+    };
     match engine::run(&mut state, &call) {
         Answer::Done(lines) => format!("0|{}|{}", lines.join(";"), words_of(&state.session)),
         Answer::Refused(number) => format!("{number}||{}", words_of(&state.session)),
@@ -123,8 +124,9 @@ fn fills(w: &mut Words, s: &mut Session) {
     }
 }
 
-fn call(w: &mut Words) -> Call {
-    match w.word() {
+/// The call, unless no record has its kind.
+fn call(w: &mut Words) -> Option<Call> {
+    Some(match w.word() {
         "SC" => screen(w),
         "CL" => Call::Clear { now: w.number() },
         "AL" => Call::Allocate { now: w.number(), max_fills: w.number() },
@@ -134,8 +136,9 @@ fn call(w: &mut Words) -> Call {
         "SK" => Call::Skip { now: w.number(), fill: w.number(), reason: w.number() },
         "FN" => Call::Finish { now: w.number() },
         "EX" => Call::Expire { now: w.number() },
+        "--" => return None,
         other => panic!("no call {other}"),
-    }
+    })
 }
 
 fn screen(w: &mut Words) -> Call {

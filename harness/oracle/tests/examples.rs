@@ -64,3 +64,15 @@ fn marked_for_proof() {
     assert_eq!([price(0, 9), price(0, 10), price(9, 9), price(11, 9)], [Some(8), Some(10), Some(10), None]);
     assert_eq!([2500, 0, 10_000].map(|bps| auction_engine::reach::band(11, bps)), [10, 11, 11]);
 }
+
+/// 'Library call, any': a session over a limit is refused with 9 before anything is refused with 4, a kind that no call has included.
+#[test]
+fn limits_before_values() {
+    let answer = |band: u64, policy: u8, call: &str| {
+        let header = format!("100 0 200 1000 2 0 {} 1 9 10 {policy} {band}", "00".repeat(32));
+        oracle::single_call::answer(&format!("{header} 1 0 0 0 0 0 0 0 0 0 {call}"))
+    };
+    assert_eq!([10_000, 10_001].map(|band| answer(band, 0, "-- 9")), ["4||", "9||"]);
+    assert_eq!([10_000, 10_001].map(|band| answer(band, 4, "CL 150")), ["4||", "9||"]);
+    assert_eq!([10_000, 10_001].map(|band| answer(band, 0, "SK 150 0 7")), ["4||", "9||"]);
+}

@@ -54,23 +54,31 @@ pub fn run(state: &mut State, call: &Call) -> Answer {
     }
 }
 
-/// 'Library call, any': 9, then 4. The source's types leave little of 4 to test.
-pub fn library_refusal(state: &State, call: &Call) -> Option<u8> {
+/// 'Library call, any': 9, then 4.
+fn library_refusal(state: &State, call: &Call) -> Option<u8> {
+    if is_over_a_limit(state) {
+        return Some(9);
+    }
+    is_outside(call).then_some(4)
+}
+
+/// 'Library call, any': 9.
+pub fn is_over_a_limit(state: &State) -> bool {
     let s = &state.session;
-    if s.orders.len() > crate::MAX_ORDERS
+    s.orders.len() > crate::MAX_ORDERS
         || s.fills.len() > crate::MAX_FILLS
         || state.feed.params.band_bps > 10_000
         || (s.params.forced_sale && state.feed.reserve != 0)
         || s.params.reveal_end.checked_add(s.params.rofr_window).is_none()
-    {
-        return Some(9);
-    }
-    let outside = match *call {
+}
+
+/// 'Library call, any': 4, for an argument. The source's types leave little of it to test.
+pub fn is_outside(call: &Call) -> bool {
+    match *call {
         Call::Screen { side, verdict, id, .. } => side > 1 || verdict > 6 || (side == 0 && verdict == 0 && id.is_none()),
         Call::Skip { reason, .. } => reason > 6,
         _ => false,
-    };
-    outside.then_some(4)
+    }
 }
 
 /// The session of a header, without orders.
