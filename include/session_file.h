@@ -21,7 +21,10 @@ extern "C" {
    it are left as they were. Or returns one of the refusals above, and the whole output is zeroed.
 
    input and output point to so many bytes each and do not overlap. Any input will do: a file that is turned away has a listing too,
-   which says at which record and why. Nothing is kept between calls, so threads may call this at once. */
+   which says at which record and why. Nothing is kept between calls, so threads may call this at once.
+
+   Stack: give the calling thread 128 KiB or more. Measured by harness/c/stack.c on x86-64 Linux: with a session of 16 orders and 24 fills
+   and every kind of call, this runs on a thread of 76 KiB and crashes on one of 72 KiB. How long the file is makes no difference. */
 int64_t clear_session_file(const uint8_t *input, size_t input_len, uint8_t *output, size_t output_len);
 
 #ifdef __cplusplus
