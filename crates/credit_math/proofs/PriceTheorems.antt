@@ -15,7 +15,7 @@ use Rattle.credit_math.specs.Error.{badLength, noCross}
 use Rattle.credit_math.specs.Price.{Best, none, at, Found, refused, failed, cross, priced, executed, better, clearPrice, priceRefusal, findUniformClearPrice}
 use Rattle.credit_math.specs.Claims.{Executes, BestPrice, RightPrice, turned-away, no-cross, cross-at, PriceIsRight, TotalsFit}
 use Rattle.credit_math.proofs.Best.{BestOf, best-beats, beats-one}
-use Rattle.credit_math.proofs.Price.{better-irrefl, better-trans, better-total, clear-price-best, by-order-is, no-refusal}
+use Rattle.credit_math.proofs.Price.{better-irrefl, better-trans, better-total, clear-price-best, no-refusal}
 use Rattle.credit_math.proofs.Totals.{buy-below, sell-below, executed-below}
 
 -- lists are refused with 30 or not at all
@@ -93,7 +93,6 @@ price-is-right isBuy limits qtys reserve reference = record {
   one-best = one-best isBuy limits qtys reserve reference;
   one-answer = λ a h. one-answer isBuy limits qtys reserve reference a (findUniformClearPrice isBuy limits qtys reserve reference) h (right isBuy limits qtys reserve reference);
   no-cross-exactly = λ z. exactly isBuy limits qtys reserve reference z (findUniformClearPrice isBuy limits qtys reserve reference) (right isBuy limits qtys reserve reference);
-  source = by-order-is isBuy limits qtys reference reserve;
 }
 
 pub totals-fit : (isBuy : List Bool) (limits qtys : List ℕ) → TotalsFit isBuy limits qtys

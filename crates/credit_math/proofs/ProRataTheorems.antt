@@ -27,7 +27,6 @@ lot-high ids qtys total i = omega (arith, only-one (ltb (rank ids qtys i) (resid
 pub lots-are-right : (ids qtys : List ℕ) (total : ℕ) → LotsAreRight ids qtys total
 lots-are-right ids qtys total fits = record {
   length-is = length-lots ids qtys total;
-  by-rank = lots-at ids qtys total;
   low = λ i h. omega (arith, lots-at ids qtys total i h, lot-low ids qtys total i);
   high = λ i h. omega (arith, lots-at ids qtys total i h, lot-high ids qtys total i);
   residue-small = residue-lt ids qtys total fits;

@@ -10,9 +10,8 @@ use Rattle.laws.specs.Sums.{count, sumOf}
 use Rattle.laws.specs.Lists.{Member}
 use Rattle.credit_math.specs.Limits.{maxOrders, sideBits, volumeBits}
 use Rattle.credit_math.specs.Error.{badLength, noCross}
-use Rattle.credit_math.specs.Price.{buy, sell, executed, better, clearPrice, priceRefusal, findUniformClearPrice, Found, refused, failed, cross}
+use Rattle.credit_math.specs.Price.{buy, sell, executed, better, priceRefusal, findUniformClearPrice, Found, refused, failed, cross}
 use Rattle.credit_math.specs.ProRata.{share, residue, lots}
-use Rattle.credit_math.specs.Steps.{byOrder, lot}
 
 module _ (isBuy : List Bool) (limits qtys : List ℕ) where
   -- p is a candidate, an order's limit at or above the reserve, and executes something
@@ -43,8 +42,6 @@ module _ (isBuy : List Bool) (limits qtys : List ℕ) where
     -- NoCross exactly where no candidate executes anything
     pub no-cross-exactly : priceRefusal isBuy limits qtys ≡ 0
         → (findUniformClearPrice isBuy limits qtys reserve reference ≡ failed noCross) ↔ ((p : ℕ) → Executes reserve p → ⊥)
-    -- going through the orders finds what the source's walk over the sorted limits finds
-    pub source : byOrder isBuy limits qtys reserve reference ≡ clearPrice isBuy limits qtys reserve reference
 
   -- 'Side totals may reach 68 bits, the volume 67': not more, for at most maxOrders orders of 64-bit quantities
   pub record WithinBits : Type 0 where
@@ -59,8 +56,6 @@ module _ (isBuy : List Bool) (limits qtys : List ℕ) where
 pub record RightLots (ids qtys : List ℕ) (total : ℕ) : Type 0 where
   -- one for each quantity
   pub length-is : length (lots ids qtys total) ≡ length qtys
-  -- by larger quantity, lower id, earlier place: the share, and a unit where fewer places than the residue come before
-  pub by-rank : (i : ℕ) → i < length qtys → getD (lots ids qtys total) i 0 ≡ lot ids qtys total i
   -- shares are floors: a lot is its share or one unit more
   pub low : (i : ℕ) → i < length qtys → share total (sumOf qtys) (getD qtys i 0) ≤ getD (lots ids qtys total) i 0
   pub high : (i : ℕ) → i < length qtys → getD (lots ids qtys total) i 0 ≤ share total (sumOf qtys) (getD qtys i 0) + 1
