@@ -3,17 +3,17 @@
 use mathlib.Core.Path.{_≡_, sym, _∙_}
 use mathlib.Core.Bool.{true, not, _&&_}
 use Prim.Native.Nat.{ℕ, _≤_}
-use lib.Dec.{leb, ltb}
+use lib.Dec.{leb, ltb, eqb}
 use borrow.Author.Tests.{leb-true}
 use Rattle.laws.specs.Search.{every}
-use Rattle.laws.specs.Checks.{_then_}
+use Rattle.laws.specs.Checks.{unless, _then_}
 use Rattle.laws.proofs.Checks.{then-zero, then-stop, then-pass, then-assoc, unless-zero, check-zero}
 use Rattle.clock.specs.Clock.{sumFits}
 use Rattle.credit_math.specs.Limits.{maxOrders}
 use Rattle.book.specs.Limits.{maxFills}
 use Rattle.disclosure.specs.Disclosure.{maxBand}
 use Rattle.auction_engine.specs.declared.Session.{Session}
-use Rattle.auction_engine.specs.Session.{orderAt}
+use Rattle.auction_engine.specs.Session.{orderAt, fillAt}
 use Rattle.auction_engine.specs.Call.{Call, limitsRefusal, fieldsRefusal, argumentsRefusal}
 use Rattle.auction_engine.specs.Engine.{refusal, ownRefusal}
 
@@ -69,16 +69,41 @@ module _ (s : Session) (c : Call) where
   pub stops-checked : (m : ℕ) → m ≡ (limitsRefusal s then fieldsRefusal s) → (m ≡ 0 → ⊥) → m ≡ refusal s c
   stops-checked m e z = then-stop m (argumentsRefusal c then ownRefusal s c) z ∙ rw e in-stages
 
-  -- past it, the arguments and the own row decide; the own row alone where nothing is asked of the arguments
-  module _ (m : ℕ) (e : m ≡ (limitsRefusal s then fieldsRefusal s)) (z : m ≡ 0) where
-    pub past-checked : (n : ℕ) → n ≡ (argumentsRefusal c then ownRefusal s c) → n ≡ refusal s c
-    past-checked n f = f ∙ then-pass (limitsRefusal s then fieldsRefusal s) (argumentsRefusal c then ownRefusal s c) (sym e ∙ z) ∙ in-stages
-
-    pub own-decides : argumentsRefusal c ≡ 0 → (n : ℕ) → n ≡ ownRefusal s c → n ≡ refusal s c
-    own-decides a n f = past-checked n (f ∙ then-pass (argumentsRefusal c) (ownRefusal s c) a)
+  -- past it, the own row decides where nothing is asked of the arguments
+  pub own-decides : (m : ℕ) → m ≡ (limitsRefusal s then fieldsRefusal s) → m ≡ 0 → argumentsRefusal c ≡ 0 → (n : ℕ) → n ≡ ownRefusal s c → n ≡ refusal s c
+  own-decides m e z a n f =
+      f ∙ then-pass (argumentsRefusal c) (ownRefusal s c) a
+      ∙ then-pass (limitsRefusal s then fieldsRefusal s) (argumentsRefusal c then ownRefusal s c) (sym e ∙ z) ∙ in-stages
 
   pub accepted : refusal s c ≡ 0 → Accepted s c
   accepted h =
       let a = then-zero _ _ (in-stages ∙ h) in
       let b = then-zero _ _ (a .1) in
       record { within = checked-within s (a .0); arguments = b .0; own = b .1 }
+
+-- ---- checks in two stages: m is what any call checks and the entry of the call's own checks, and the rest is looked at where m is 0
+pub record Staged (s : Session) (c : Call) (rest m : ℕ) : Type 0 where
+  pub stops : (m ≡ 0 → ⊥) → m ≡ refusal s c
+  pub decides : m ≡ 0 → (n : ℕ) → n ≡ rest → n ≡ refusal s c
+  pub within : m ≡ 0 → Within s
+
+pub in-two-stages : (s : Session) (c : Call) (entry rest : ℕ) → (argumentsRefusal c then ownRefusal s c) ≡ (entry then rest)
+    → (m : ℕ) → m ≡ ((limitsRefusal s then fieldsRefusal s) then entry) → Staged s c rest m
+in-two-stages s c entry rest own m is =
+    let both : (m then rest) ≡ refusal s c = rw (is, then-assoc (limitsRefusal s then fieldsRefusal s) entry rest, ← own) (in-stages s c) in
+    record {
+      stops = λ z. then-stop m rest z ∙ both;
+      decides = λ z n e. e ∙ then-pass m rest z ∙ both;
+      within = λ z. checked-within s (then-zero (limitsRefusal s then fieldsRefusal s) entry (sym is ∙ z) .0);
+    }
+
+-- what a settle and a skip check of the fill, and a screen of the order
+abbrev pub fillChecks : Session → (i : ℕ) → ℕ
+fillChecks s i = unless (ltb i (s .«fill_count»)) 21 then unless (not (fillAt s i .settled)) 23
+
+abbrev pub orderChecks : Session → (i side : ℕ) → ℕ
+orderChecks s i side =
+    unless (ltb i (s .«order_count»)) 12
+    then unless (eqb (orderAt s i .side) side) 13
+    then unless (orderAt s i .revealed) 14
+    then unless (not (orderAt s i .screened)) 15

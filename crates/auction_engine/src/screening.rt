@@ -13,6 +13,7 @@ ghost use Rattle.auction_engine.specs.Screening.{exclusionOf, screenedAs
 ghost use Rattle.auction_engine.specs.Engine.{refusal, answer};
 ghost use Rattle.auction_engine.specs.Changes.{placeOf, changeOf};
 ghost use Rattle.auction_engine.specs.Call as call;
+ghost use Rattle.auction_engine.specs.Call.{screenKind, admits, inWindow};
 use crate::Answer;
 use crate::Session;
 use crate::changes::Change;
@@ -50,9 +51,17 @@ impl Session {
     ) -> Change
         ensures { λ r. ⌜ r ≡ changeOf self (call.screen now order side verdict «has_id» id) ⌝ }
     {
+        let argument = arguments_refusal(side, verdict, has_id, id);
+        let early = first_of(
+            self.checked(),
+            first_of(argument, self.screening_refusal(now)),
+        );
+        if early != 0 {
+            return self.unchanged(early);
+        }
         let i = order as usize;
         let o = self.order_at(i);
-        let refusal = self.screen_refusal(now, order, side, verdict, has_id, id, o);
+        let refusal = self.order_refusal(i, side, o);
         if refusal != 0 {
             return self.unchanged(refusal);
         }
@@ -75,31 +84,16 @@ impl Session {
         orders[0]
     }
 
-    fn screen_refusal(
-        self,
-        now: i64,
-        order: u8,
-        side: u8,
-        verdict: u8,
-        has_id: bool,
-        id: [u8; 16],
-        o: Order,
-    ) -> u8
-        requires { ⌜ (order < maxOrders → o ≡ orderAt self order) ⌝ }
-        ensures { λ r. ⌜ r ≡ refusal self (call.screen now order side verdict «has_id» id) ⌝ }
+    // 11 outside the window; 10 the phase.
+    fn screening_refusal(self, now: i64) -> u8
+        ensures { λ r. ⌜ r ≡ unless (inWindow self now) 11 then unless (admits (self .phase) screenKind) 10 ⌝ }
     {
-        let bad = self.checked();
-        if bad != 0 {
-            return bad;
-        }
-        let argument = arguments_refusal(side, verdict, has_id, id);
         let window = unless(self.in_window(now), book::error::OUTSIDE_WINDOW);
         let phase = unless(
             crate::admits(self.phase, crate::SCREEN),
             book::error::WRONG_PHASE,
         );
-        let no_order = self.order_refusal(order as usize, side, o);
-        first_of(argument, first_of(window, first_of(phase, no_order)))
+        first_of(window, phase)
     }
 
     // 12 no such order; 13 side; 14 not revealed; 15 screened.

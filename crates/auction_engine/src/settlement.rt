@@ -44,9 +44,17 @@ impl Session {
     pub(crate) fn settle_change(self, fill: u32) -> Change
         ensures { λ r. ⌜ r ≡ changeOf self (call.settle fill) ⌝ }
     {
+        let phase = unless(
+            crate::admits(self.phase, crate::SETTLE),
+            book::error::WRONG_PHASE,
+        );
+        let early = first_of(self.checked(), phase);
+        if early != 0 {
+            return self.unchanged(early);
+        }
         let at = fill as usize;
         let f = self.fill_at(at);
-        let refusal = self.settle_refusal(fill, f);
+        let refusal = self.fill_refusal(at, f);
         if refusal != 0 {
             return self.unchanged(refusal);
         }
@@ -64,21 +72,6 @@ impl Session {
             return fills[at];
         }
         fills[0]
-    }
-
-    fn settle_refusal(self, fill: u32, f: Fill) -> u8
-        requires { ⌜ (fill < maxFills → f ≡ fillAt self fill) ⌝ }
-        ensures { λ r. ⌜ r ≡ refusal self (call.settle fill) ⌝ }
-    {
-        let bad = self.checked();
-        if bad != 0 {
-            return bad;
-        }
-        let phase = unless(
-            crate::admits(self.phase, crate::SETTLE),
-            book::error::WRONG_PHASE,
-        );
-        first_of(phase, self.fill_refusal(fill as usize, f))
     }
 
     // 21 no fill; 23 settled.
@@ -115,9 +108,19 @@ impl Session {
     pub(crate) fn skip_change(self, now: i64, fill: u32, reason: u8) -> Change
         ensures { λ r. ⌜ r ≡ changeOf self (call.skip now fill reason) ⌝ }
     {
+        let argument = unless(reason <= 6, book::error::BAD_FIELD);
+        let phase = unless(
+            crate::admits(self.phase, crate::SKIP),
+            book::error::WRONG_PHASE,
+        );
+        let early = first_of(self.checked(), first_of(argument, phase));
+        if early != 0 {
+            return self.unchanged(early);
+        }
         let at = fill as usize;
         let f = self.fill_at(at);
-        let refusal = self.skip_refusal(now, fill, reason, f);
+        let passes = unless(0 < reason, book::error::FILL_SETTLEABLE);
+        let refusal = first_of(self.fill_refusal(at, f), passes);
         if refusal != 0 {
             return self.unchanged(refusal);
         }
@@ -129,24 +132,6 @@ impl Session {
         let mut c = self.fill_change(at, f, Few::one(skipped));
         c.skipped_fills = with_bit(self.skipped_fills, fill);
         c
-    }
-
-    fn skip_refusal(self, now: i64, fill: u32, reason: u8, f: Fill) -> u8
-        requires { ⌜ (fill < maxFills → f ≡ fillAt self fill) ⌝ }
-        ensures { λ r. ⌜ r ≡ refusal self (call.skip now fill reason) ⌝ }
-    {
-        let bad = self.checked();
-        if bad != 0 {
-            return bad;
-        }
-        let argument = unless(reason <= 6, book::error::BAD_FIELD);
-        let phase = unless(
-            crate::admits(self.phase, crate::SKIP),
-            book::error::WRONG_PHASE,
-        );
-        let no_fill = self.fill_refusal(fill as usize, f);
-        let passes = unless(0 < reason, book::error::FILL_SETTLEABLE);
-        first_of(argument, first_of(phase, first_of(no_fill, passes)))
     }
 
     // Every fill settled or skipped: the print. The clock is not read.
@@ -175,22 +160,22 @@ impl Session {
     fn finish_refusal(self, now: i64) -> u8
         ensures { λ r. ⌜ r ≡ refusal self (call.finish now) ⌝ }
     {
-        let bad = self.checked();
-        if bad != 0 {
-            return bad;
-        }
-        let fills = self.fills;
         let phase = unless(
             crate::admits(self.phase, crate::FINISH),
             book::error::WRONG_PHASE,
         );
+        let early = first_of(self.checked(), phase);
+        if early != 0 {
+            return early;
+        }
+        let fills = self.fills;
         let pending = unless(
             all_settled(fills, self.fill_count),
             book::error::FILLS_PENDING,
         );
         let volume = moved_volume(fills, self.fill_count, self.skipped_fills);
         let unfit = unless(wide::fits_word(volume), book::error::MATH_OVERFLOW);
-        first_of(phase, first_of(pending, unfit))
+        first_of(pending, unfit)
     }
 
     fn print_of(self) -> Print

@@ -1,28 +1,53 @@
--- `auction_engine::Session::settle_change` meets its contract: by the law of refused changes, and by that of accepted ones.
+-- `auction_engine::Session::settle_change` meets its contract: by the law of checks in two stages, and those of refused and of accepted changes.
 -- Assumes nothing.
-use mathlib.Core.Path.{_≡_, sym, _∙_, ap}
+use mathlib.Core.Path.{_≡_, refl, sym, _∙_, ap}
 use Prim.Native.Nat.{_<_}
 use borrow.Author.Needs.{needs}
+use Rattle.laws.specs.Checks.{unless}
+use Rattle.laws.proofs.Checks.{then-pass}
 use Rattle.book.specs.Limits.{maxFills}
 use Rattle.auction_engine.specs.Call as call
+use Rattle.auction_engine.specs.Call.{argumentsRefusal}
 use Rattle.auction_engine.specs.Session.{fillAt}
-use Rattle.auction_engine.specs.Settlement.{settleEffect, settleEvents}
-use Rattle.auction_engine.specs.Engine.{effect, events}
+use Rattle.auction_engine.specs.Settlement.{settleRefusal, settleEffect, settleEvents}
+use Rattle.auction_engine.specs.Engine.{refusal, ownRefusal, effect, events}
 use Rattle.auction_engine.specs.Changes.{changeOf}
+use Rattle.auction_engine.proofs.Checks.{Staged, in-two-stages, fillChecks}
 use Rattle.auction_engine.proofs.Changing.{refused-change, accepted-change}
 use Rattle.auction_engine.proofs.Places.{place-is, settle-place}
 use Rattle.auction_engine.proofs.Session.settle_change.Statement.{statement}
 use Rattle.auction_engine.proofs.Session.settle_change.Tie as tie
 
+-- the function's start, from where the first stage is over
+abbrev start : tie.After-first-of → tie.Start
+start c = c .before .before .before .before
+
+-- the phase first, then the fill
+stages : (c : tie.After-first-of) → let a = start c .args in Staged (a .self) (call.settle (a .fill)) (fillChecks (a .self) (a .fill)) (c .first-of .result)
+unfolding argumentsRefusal ownRefusal settleRefusal
+stages c =
+    let a = start c .args in
+    in-two-stages (a .self) (call.settle (a .fill)) (unless (call.admits (a .self .phase) call.settleKind) 10) _ (sym (then-pass 0 _ refl)) (c .first-of .result) (cc)
+
 -- the fill at the place, where the array has one
-fill-is : (c : tie.After-fill-at) → let a = c .before .args in a .fill < maxFills → c .fill-at .result ≡ fillAt (a .self) (a .fill)
-fill-is c h = let a = c .before .args in c .fill-at .ensures ∙ ap (fillAt (a .self)) (place-is maxFills (a .fill) h)
+fill-is : (c : tie.After-fill-at) → let a = start (c .before .before) .args in a .fill < maxFills → c .fill-at .result ≡ fillAt (a .self) (a .fill)
+fill-is c h = let a = start (c .before .before) .args in c .fill-at .ensures ∙ ap (fillAt (a .self)) (place-is maxFills (a .fill) h)
 
-fill-at-requires : tie.Need-fill-at-requires
-fill-at-requires c κs = search needs
+-- past the first stage, the number of its refusal
+number : (c : tie.After-fill-refusal) → let a = start (c .before .before .before) .args in c .fill-refusal .result ≡ refusal (a .self) (call.settle (a .fill))
+number c = let d = c .before .before in stages (d .before) .decides (d .if1 .left) (c .fill-refusal .result) (c .fill-refusal .ensures)
 
-settle-refusal-requires : tie.Need-settle-refusal-requires
-settle-refusal-requires c κs = fill-is c
+admits-requires : tie.Need-admits-requires
+admits-requires c κs = search needs
+
+unless-requires : tie.Need-unless-requires
+unless-requires c κs = search needs
+
+checked-requires : tie.Need-checked-requires
+checked-requires c κs = search needs
+
+first-of-requires : tie.Need-first-of-requires
+first-of-requires c κs = search needs
 
 unchanged-requires : tie.Need-unchanged-requires
 unchanged-requires c κs = search needs
@@ -30,9 +55,26 @@ unchanged-requires c κs = search needs
 returns : tie.Need-returns
 unfolding changeOf
 returns c =
-    let n = c .before .before .settle-refusal in
-    let a = c .before .before .before .before .args in
-    refused-change (a .self) (call.settle (a .fill)) 0 _ (a .fill) _ (n .result) (n .ensures) (c .unchanged .result) (c .unchanged .ensures) (c .before .if1 .taken)
+    let d = c .before in
+    let n = d .before in
+    let a = start n .args in
+    refused-change (a .self) (call.settle (a .fill)) 0 _ (a .fill) _ (n .first-of .result) (stages n .stops (d .if1 .taken)) _ (c .unchanged .ensures) (d .if1 .taken)
+
+fill-at-requires : tie.Need-fill-at-requires
+fill-at-requires c κs = search needs
+
+fill-refusal-requires : tie.Need-fill-refusal-requires
+fill-refusal-requires c κs = let d = c .before in (stages (d .before) .within (d .if1 .left) .fills, fill-is c)
+
+unchanged-requires-2 : tie.Need-unchanged-requires-2
+unchanged-requires-2 c κs = search needs
+
+returns-2 : tie.Need-returns-2
+unfolding changeOf
+returns-2 c =
+    let n = c .before .before in
+    let a = start (n .before .before .before) .args in
+    refused-change (a .self) (call.settle (a .fill)) 0 _ (a .fill) _ (n .fill-refusal .result) (number n) _ (c .unchanged2 .ensures) (c .before .if2 .taken)
 
 settle-events-requires : tie.Need-settle-events-requires
 settle-events-requires c κs = search needs
@@ -43,27 +85,32 @@ fill-change-requires c κs = search needs
 saturating-next-requires : tie.Need-saturating-next-requires
 saturating-next-requires c κs = search needs
 
-returns-2 : tie.Need-returns-2
+returns-3 : tie.Need-returns-3
 unfolding changeOf effect events settleEffect settleEvents
-returns-2 c =
+returns-3 c =
     let e = c .before .before in
     let d = e .before in
-    let n = d .before .settle-refusal in
-    let r = d .before .before in
-    let a = r .before .args in
-    let f = fill-is r (settle-place (a .self) (a .fill) (sym (n .ensures) ∙ d .if1 .left)) in
-    accepted-change (a .self) (call.settle (a .fill)) 0 _ (a .fill) _ (n .result) (n .ensures) _
-    (rw (c .before .fill-change .ensures, c .saturating-next .ensures, e .settle-events .ensures, f)) (d .if1 .left)
+    let n = d .before in
+    let a = start (n .before .before .before) .args in
+    let f = fill-is (n .before) (settle-place (a .self) (a .fill) (sym (number n) ∙ d .if2 .left)) in
+    accepted-change (a .self) (call.settle (a .fill)) 0 _ (a .fill) _ (n .fill-refusal .result) (number n) _
+    (rw (c .before .fill-change .ensures, c .saturating-next .ensures, e .settle-events .ensures, f)) (d .if2 .left)
 
 pub settle-change-spec : {M : Type 1} → statement M
 settle-change-spec =
     tie.close
     (tie.spec
-    fill-at-requires
-    settle-refusal-requires
+    admits-requires
+    unless-requires
+    checked-requires
+    first-of-requires
     unchanged-requires
     returns
+    fill-at-requires
+    fill-refusal-requires
+    unchanged-requires-2
+    returns-2
     settle-events-requires
     fill-change-requires
     saturating-next-requires
-    returns-2)
+    returns-3)
