@@ -1,7 +1,7 @@
 -- Changes as the code comes to them, and what they are answered as. Assumes nothing.
-use mathlib.Core.Path.{_≡_, refl, _∙_, ap}
+use mathlib.Core.Path.{_≡_, refl, sym, _∙_, ap}
 use mathlib.Core.Logic.{_≢_, ⊎-elim}
-use mathlib.Core.Bool.{Bool, true, false, cond, not, _&&_}
+use mathlib.Core.Bool.{Bool, true, false, cond, not, false≢true, _&&_}
 use mathlib.Core.List.{List, [], _∷_, _++_}
 use Prim.Native.Nat.{ℕ, _<_, _≤_}
 use native.Mathlib.Omega.{arith}
@@ -184,3 +184,33 @@ module _ (s : Session) where
       go : (t : Bool) → Placed (cond t (changeOf s (callOf r)) (unchanged s (limitsRefusal s then 4)))
       go true = placed-call (callOf r)
       go false = (omega arith, omega arith)
+
+-- ---- a call that is undecided is not refused yet
+module _ (s : Session) where
+  unrefused-at : (c : Call) (i : ℕ) (o : Order) (j : ℕ) (f : Fill) → changeAt s c i o j f .undecided ≡ false
+  unrefused-at c i o j f = go (eqb (refusal s c) 0)
+    where
+      go : (t : Bool) → cond t (writing (effect s c) false i o j f 0 (few (events s c))) (unchanged s (refusal s c)) .undecided ≡ false
+      go true = refl
+      go false = refl
+
+  unrefused-call : (c : Call) → changeOf s c .undecided ≡ true → changeOf s c .refusal ≡ 0
+  unfolding changeOf
+  unrefused-call (screen now i side verdict hasId id) h = absurd (false≢true (sym (unrefused-at (screen now i side verdict hasId id) _ _ _ _) ∙ h))
+  unrefused-call (clear now) h = eqb-true _ 0 h
+  unrefused-call (allocate now n) h = eqb-true _ 0 h
+  unrefused-call (exercise now issuer i q) h = eqb-true _ 0 h
+  unrefused-call (close now caller) h = absurd (false≢true (sym (unrefused-at (close now caller) _ _ _ _) ∙ h))
+  unrefused-call (settle i) h = absurd (false≢true (sym (unrefused-at (settle i) _ _ _ _) ∙ h))
+  unrefused-call (skip now i reason) h = absurd (false≢true (sym (unrefused-at (skip now i reason) _ _ _ _) ∙ h))
+  unrefused-call (finish now) h = absurd (false≢true (sym (unrefused-at (finish now) _ _ _ _) ∙ h))
+  unrefused-call (expire now) h = absurd (false≢true (sym (unrefused-at (expire now) _ _ _ _) ∙ h))
+
+  pub unrefused : (r : CallRecord) → changeFor s r .undecided ≡ true → changeFor s r .refusal ≡ 0
+  unfolding changeFor
+  unrefused r = go (leb (r .kind) 8)
+    where
+      go : (t : Bool) → cond t (changeOf s (callOf r)) (unchanged s (limitsRefusal s then 4)) .undecided ≡ true
+          → cond t (changeOf s (callOf r)) (unchanged s (limitsRefusal s then 4)) .refusal ≡ 0
+      go true h = unrefused-call (callOf r) h
+      go false h = absurd (false≢true h)

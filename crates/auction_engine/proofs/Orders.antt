@@ -3,7 +3,7 @@
 use mathlib.Core.Path.{_≡_, sym, _∙_}
 use mathlib.Core.Logic.{_≢_, ⊎-elim}
 use mathlib.Core.Bool.{true, false, cond, not, _&&_}
-use mathlib.Core.List.{[]}
+use mathlib.Core.List.{[], _∷_}
 use Prim.Native.Nat.{ℕ, _<_}
 use native.Mathlib.Omega.{arith}
 use lib.Dec.{ltb, leb, eqb}
@@ -20,6 +20,7 @@ use Rattle.book.specs.Book.{noFill, listed}
 use Rattle.book.specs.declared.Row.{Row}
 use Rattle.auction_engine.specs.declared.Session.{Session}
 use Rattle.events.specs.Events.{few}
+use Rattle.events.specs.declared.Event.the-variants.{Ordered}
 use Rattle.auction_engine.specs.Session.{orderAt, fillAt}
 use Rattle.auction_engine.specs.Opening.{orderRefusal, withOrder}
 use Rattle.auction_engine.specs.declared.changes.Change.{Change}
@@ -64,7 +65,8 @@ module _ (s : Session) (row : Row) where
     unfolding orderChange
     order-refused e z = rw (e, ← is, ne-eqb m 0 z)
 
-    pub order-taken : r ≡ writing (withOrder s row) false (s .«order_count») (listed row) 0 (fillAt s 0) 0 (few []) → m ≡ 0 → r ≡ orderChange s row
+    pub order-taken : r ≡ writing (withOrder s row) false (s .«order_count») (listed row) 0 (fillAt s 0) 0 (few (Ordered (s .«order_count») ∷ [])) → m ≡ 0
+        → r ≡ orderChange s row
     unfolding orderChange
     order-taken e z = rw (e, ← is, eq-eqb m 0 z)
 

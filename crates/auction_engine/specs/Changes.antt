@@ -1,7 +1,7 @@
 -- What a call writes that makes no fill and gives no lot: some numbers, one order and one fill. proofs/ shows that its change, written, is its
 -- answer in Engine.antt.
 use mathlib.Core.Bool.{Bool, false, cond, not, _&&_}
-use mathlib.Core.List.{[]}
+use mathlib.Core.List.{[], _∷_}
 use Prim.Native.Nat.{ℕ}
 use lib.Dec.{ltb, leb, eqb}
 use lib.ListN.{set}
@@ -13,6 +13,7 @@ use Rattle.book.specs.declared.Order.{Order}
 use Rattle.book.specs.declared.Fill.{Fill}
 use Rattle.book.specs.declared.Row.{Row}
 use Rattle.events.specs.Events.{few, inFew, packed}
+use Rattle.events.specs.declared.Event.the-variants.{Ordered}
 use Rattle.events.specs.declared.Few.{Few}
 use Rattle.auction_engine.specs.declared.Session.{Session}
 use Rattle.auction_engine.specs.declared.Answer.{Answer}
@@ -85,10 +86,10 @@ changeOf s (expire now) = changeOfPhase s (expire now)
 unfoldable pub changeFor : Session → CallRecord → Change
 changeFor s r = cond (leb (r .kind) expireKind) (changeOf s (callOf r)) (unchanged s (limitsRefusal s then 4))
 
--- the change of an `OR` record: one order more
+-- the change of an `OR` record: one order more, and its line
 unfoldable pub orderChange : Session → Row → Change
 orderChange s row =
-    cond (eqb (orderRefusal s row) 0) (writing (withOrder s row) false (s .«order_count») (listed row) 0 (fillAt s 0) 0 (few []))
+    cond (eqb (orderRefusal s row) 0) (writing (withOrder s row) false (s .«order_count») (listed row) 0 (fillAt s 0) 0 (few (Ordered (s .«order_count») ∷ [])))
     (unchanged s (orderRefusal s row))
 
 -- what an order changes, or else a call record

@@ -23,6 +23,8 @@ use book::Given;
 use book::Order;
 use book::Params;
 use book::Row;
+use events::Event;
+use events::Few;
 
 // InvalidSchedule.
 const INVALID_SCHEDULE: u8 = 5;
@@ -143,5 +145,6 @@ pub fn order_change(s: Session, row: Row) -> Change
     c.order_at = at;
     c.order = Order::listed(row);
     c.order_count = at + 1;
+    c.events = Few::one(Event::Ordered(at as u64));
     c
 }

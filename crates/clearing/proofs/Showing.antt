@@ -11,7 +11,8 @@ use Rattle.listing.specs.Writing.{written, Writes}
 use Rattle.listing.proofs.Answers.{answer-small}
 use Rattle.session_file.specs.declared.parts.Standing.{Standing}
 use Rattle.session_file.specs.declared.parts.Part.{Part}
-use Rattle.session_file.specs.Parts.{PartPut, partsLeft}
+use Rattle.session_file.specs.Parts.{PartPut}
+use Rattle.session_file.specs.PartSteps.{partsLeft}
 use Rattle.session_file.proofs.PartByPart.{parts-fewer}
 
 pub showing-less : (input : List ℕ) {s : Standing} {r : Part} {before left : List ℕ} → s .ended ≡ false → maxRecord ≤ length before → PartPut input s r before left

@@ -16,7 +16,8 @@ use borrow.Author.Tests.{lt-ltb, le-leb, lt-leb, leb-true, eq-eqb, ne-eqb}
 use Rattle.listing.specs.declared.Written.{Written}
 use Rattle.listing.specs.Writing.{written}
 use Rattle.session_file.specs.File.{maxInput, listing}
-use Rattle.session_file.specs.Entry.{entryAnswer, entryOutput, Entered, listAnswer, Listed, Ran}
+use Rattle.session_file.specs.Entry.{entryAnswer, entryOutput, Entered, listAnswer, Listed}
+use Rattle.session_file.specs.Steps.{Ran}
 
 -- ---- the file function: an input above the limit, a listing that does not fit, and one that does
 pub listed-big : (s e e′ : List ℕ) → maxInput < length s → e′ ≡ replicate (length e) 0 → Listed s (record { refusal = 26; len = 0 }) e e′

@@ -16,7 +16,7 @@ use Rattle.session_file.specs.declared.file.Place.{Place}
 use Rattle.session_file.specs.Fields.{Read}
 use Rattle.session_file.specs.Reads.{shapeAt, readingRefusal, readNext, readsFrom}
 use Rattle.session_file.specs.File.{State, state, unopened, fileRefusal, made, saidOf, told, left, numbered, lastLine, maxInput, listing}
-use Rattle.session_file.specs.Steps.{turnAt}
+use Rattle.session_file.specs.Parts.{turnAt}
 use Rattle.session_file.proofs.Reading.{passed, read-whole, read-kind, made-state}
 
 -- n is at least the number of bytes left

@@ -8,14 +8,15 @@ use native.Mathlib.Nat.{mod-eq-of-lt}
 use native.Mathlib.Omega.{arith}
 use lib.Dec.{eqb}
 use lib.ListN.{length}
-use borrow.Author.Tests.{lt-ltb, le-ltb, le-leb, lt-leb}
+use borrow.Author.Tests.{eqb-true, eqb-false, lt-ltb, le-ltb, le-leb, lt-leb}
 use Rattle.laws.proofs.Tests.{tested, lt-or-le}
 use Rattle.events.specs.Events.{eventsIn}
-use Rattle.events.specs.declared.Event.the-variants.{Refused}
+use Rattle.events.specs.declared.Event.the-variants.{Opened, Refused}
 use Rattle.events.proofs.Packed.{events-packed, few-packed}
 use Rattle.listing.specs.Lines.{recordLines}
 use Rattle.listing.specs.Writing.{written, after}
 use Rattle.auction_engine.specs.declared.Session.{Session}
+use Rattle.auction_engine.specs.declared.changes.Change.{Change}
 use Rattle.session_file.specs.declared.fields.Fields.{Fields}
 use Rattle.session_file.specs.declared.file.Place.{Place}
 use Rattle.session_file.specs.declared.file.Step.{Step}
@@ -24,26 +25,31 @@ use Rattle.session_file.specs.declared.parts.Next.{Next}
 use Rattle.session_file.specs.Marks.{noKind}
 use Rattle.session_file.specs.Fields.{Read}
 use Rattle.session_file.specs.File.{state, unopened, fileRefusal, made, saidOf, start, lastLine, maxInput, listing}
-use Rattle.session_file.specs.Steps.{turnAt}
-use Rattle.session_file.specs.Parts.{standingAt, begun, partAt, nextNumber, standingAfter, PartPut, partsFrom, standingFrom, PartsAreListing, partsLeft, wholeRefused, RecordNext, NextOf, turnOf}
+use Rattle.session_file.specs.Parts.{standingAt, begun, partAt, nextNumber, standingAfter, PartPut, partsFrom, standingFrom, PartsAreListing, turnAt}
+use Rattle.session_file.specs.PartSteps.{partsLeft, wholeRefused, RecordNext, NextOf, turnOf}
 use Rattle.session_file.proofs.Lines.{linesAt, lines-start, lines-end, lines-turn, onward}
 use Rattle.session_file.proofs.Stepping.{Stepped}
 
 -- ---- a part as the code comes to it
 -- the session after a record and what is said of it, by the way in which it is run
-pub turn-is : (x : Session) (stage : ℕ) (r : Read) (f : Fields) (t : Step) → Stepped x stage r f t
-    → (turnOf x t f .session ≡ cond (eqb (fileRefusal (state stage x) r) 0) (made (state stage x) r .session) x)
-    × (eventsIn (turnOf x t f .said) ≡ saidOf (state stage x) r)
+pub turn-is : (x : Session) (stage : ℕ) (r : Read) (f : Fields) (c : Change) (t : Step) → Stepped x stage r f c t
+    → (turnOf x t c f .session ≡ cond (eqb (fileRefusal (state stage x) r) 0) (made (state stage x) r .session) x)
+    × (eventsIn (turnOf x t c f .said) ≡ saidOf (state stage x) r)
 unfolding turnOf
-turn-is x stage r f t d =
+turn-is x stage r f c t d =
     ⊎-elim
-    (λ (u : t .undecided ≡ true). rw u (d .by-apply u))
-    (λ (u : t .undecided ≡ false).
+    (λ (z : eqb (t .refusal) 0 ≡ true).
+    let n = eqb-true _ 0 z in
     ⊎-elim
-    (λ (o : t .opens ≡ true). let e = d .by-opening o in rw (u, o) (e .0, few-packed (t .said) ∙ e .1))
-    (λ (o : t .opens ≡ false). let e = d .by-change u o in rw (u, o) (e .0, few-packed (t .said) ∙ e .1))
+    (λ (o : t .opens ≡ true). let e = d .by-opening n o in rw (z, o) (e .0, events-packed (Opened ∷ []) (omega arith) ∙ e .1))
+    (λ (o : t .opens ≡ false).
+    ⊎-elim
+    (λ (u : c .undecided ≡ true). rw (z, o, u) (d .by-apply n o u))
+    (λ (u : c .undecided ≡ false). let e = d .by-change n o u in rw (z, o, u) (e .0, few-packed (c .events) ∙ e .1))
+    (tested (c .undecided)))
     (tested (t .opens)))
-    (tested (t .undecided))
+    (λ (z : eqb (t .refusal) 0 ≡ false). let e = d .by-refusal (eqb-false _ 0 z) in rw z (e .0, events-packed (Refused (t .refusal) ∷ []) (omega arith) ∙ e .1))
+    (tested (eqb (t .refusal) 0))
 
 module _ (s : List ℕ) (t : Standing) where
   -- nothing is put once the last line was

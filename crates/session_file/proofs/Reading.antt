@@ -23,21 +23,21 @@ kindRead (header p g) = headerKind
 kindRead (order row) = orderKind
 kindRead (call c) = callKind
 
--- a record that was read has its mark's kind
-fields-kind : (m : Mark) (rec : List ℕ) → 0 < shapeOf m .kind → kindRead (fieldsOf m rec) ≡ shapeOf m .kind
+-- a record has its mark's kind
+pub fields-kind : (m : Mark) (rec : List ℕ) → kindRead (fieldsOf m rec) ≡ shapeOf m .kind
 unfolding fieldsOf shapeOf
-fields-kind Unknown rec h = absurd (omega arith)
-fields-kind SH rec h = refl
-fields-kind OR rec h = refl
-fields-kind SC rec h = refl
-fields-kind CL rec h = refl
-fields-kind AL rec h = refl
-fields-kind RX rec h = refl
-fields-kind RC rec h = refl
-fields-kind ST rec h = refl
-fields-kind SK rec h = refl
-fields-kind FN rec h = refl
-fields-kind EX rec h = refl
+fields-kind Unknown rec = refl
+fields-kind SH rec = refl
+fields-kind OR rec = refl
+fields-kind SC rec = refl
+fields-kind CL rec = refl
+fields-kind AL rec = refl
+fields-kind RX rec = refl
+fields-kind RC rec = refl
+fields-kind ST rec = refl
+fields-kind SK rec = refl
+fields-kind FN rec = refl
+fields-kind EX rec = refl
 
 -- a record has its mark at least
 width-some : (m : Mark) → 2 ≤ shapeOf m .width
@@ -100,7 +100,7 @@ module _ (before : ℕ) (rest : List ℕ) where
       go false e z = z
 
   pub read-kind : readingRefusal before rest ≡ 0 → kindRead (readNext before rest) ≡ shapeAt rest .kind
-  read-kind z = ap kindRead (read-good z) ∙ fields-kind (markAt rest) (recordAt rest) (passed z .known)
+  read-kind z = ap kindRead (read-good z) ∙ fields-kind (markAt rest) (recordAt rest)
 
 -- what a file carries on after a record that was read: its kind, and the session
 pub made-state : (f : State) (x : Read) → 0 < kindRead x → made f x ≡ state (kindRead x) (made f x .session)

@@ -17,8 +17,8 @@ use Rattle.listing.proofs.Spliced.{puts-none, puts-puts}
 use Rattle.auction_engine.specs.declared.Session.{Session}
 use Rattle.session_file.specs.declared.file.Place.{Place}
 use Rattle.session_file.specs.File.{state, unopened, lastLine, maxInput, listing}
-use Rattle.session_file.specs.Steps.{turnAt}
-use Rattle.session_file.specs.Entry.{Ran}
+use Rattle.session_file.specs.Parts.{turnAt}
+use Rattle.session_file.specs.Steps.{Ran}
 use Rattle.session_file.proofs.Lines.{linesAt, lines-start, lines-end, lines-turn, Onward, onward}
 use Rattle.session_file.proofs.Lent.{fits, longer, lent, to-end, puts-lent, length-lent}
 

@@ -1,51 +1,48 @@
 -- The step of a record as the code comes to it is what is said of the record in File.antt. Assumes nothing.
 use mathlib.Core.Path.{_≡_, refl, sym, ap, _∙_}
 use mathlib.Core.Logic.{_≢_, ⊎-elim}
-use mathlib.Core.Bool.{Bool, true, false, cond, false≢true, _&&_}
+use mathlib.Core.Bool.{Bool, true, false, cond, not, false≢true}
 use mathlib.Core.List.{List, [], _∷_}
 use Prim.Native.Nat.{ℕ, _+_, _<_, _≤_}
 use native.Mathlib.Omega.{arith}
 use lib.Dec.{eqb, leb}
-use lib.IntN.{pos}
-use lib.ListN.{length, take, drop, length-drop}
-use lib.Seq.{set-getD}
+use lib.ListN.{length, drop, length-drop}
 use borrow.Author.Tests.{eq-eqb, ne-eqb, eqb-true, eqb-false}
 use Rattle.laws.specs.Checks.{unless, _then_}
 use Rattle.laws.proofs.Tests.{tested}
 use Rattle.laws.proofs.Checks.{then-pass}
 use Rattle.credit_math.specs.Limits.{maxOrders}
 use Rattle.book.specs.Limits.{maxFills}
-use Rattle.book.specs.Book.{noOrder, noFill}
+use Rattle.book.specs.Book.{listed}
 use Rattle.book.specs.declared.Params.{Params}
 use Rattle.book.specs.declared.Given.{Given}
 use Rattle.book.specs.declared.Row.{Row}
 use Rattle.events.specs.Events.{few, inFew, packed, eventsIn}
-use Rattle.events.specs.declared.Event.the-variants.{Refused}
+use Rattle.events.specs.declared.Event.the-variants.{Opened, Ordered, Refused}
 use Rattle.events.proofs.Packed.{events-packed, few-packed}
 use Rattle.auction_engine.specs.declared.Session.{Session}
 use Rattle.auction_engine.specs.declared.Answer.{Answer}
-use Rattle.auction_engine.specs.declared.CallRecord.{CallRecord}
 use Rattle.auction_engine.specs.declared.changes.Change.{Change}
-use Rattle.auction_engine.specs.Session.{fresh}
-use Rattle.auction_engine.specs.Call.{Call, screen, clear, allocate, exercise, close, settle, skip, finish, expire, limitsRefusal, argumentsRefusal}
+use Rattle.auction_engine.specs.Session.{fillAt, fresh}
+use Rattle.auction_engine.specs.Call.{Call, screen, clear, allocate, exercise, close, settle, skip, finish, expire, argumentsRefusal}
 use Rattle.auction_engine.specs.Engine.{refusal, effect, events, refusedBy, answer, callOf, recordArguments, applied}
 use Rattle.auction_engine.specs.Opening.{headerRefusal, orderRefusal, withOrder}
-use Rattle.auction_engine.specs.Changes.{unchanged, changeFor, orderChange, recordChange, changed, madeOf}
-use Rattle.auction_engine.proofs.Changing.{change-applied, change-placed}
+use Rattle.auction_engine.specs.Changes.{writing, unchanged, changeFor, orderChange, recordChange, changed, madeOf}
+use Rattle.auction_engine.proofs.Changing.{change-applied, change-placed, unrefused}
 use Rattle.auction_engine.proofs.Orders.{order-written, order-placed}
-use Rattle.session_file.specs.declared.records.Head.{Head}
 use Rattle.session_file.specs.declared.fields.Fields.{Fields}
+use Rattle.session_file.specs.declared.fields.Record.{Record}
 use Rattle.session_file.specs.declared.file.Place.{Place}
 use Rattle.session_file.specs.declared.file.Step.{Step}
 use Rattle.session_file.specs.Marks.{orderKind}
 use Rattle.session_file.specs.Fields.{Read, refused, header, order, call, fieldsOf}
-use Rattle.session_file.specs.Reads.{markAt, recordAt, readingRefusal, readNext}
+use Rattle.session_file.specs.Reads.{markAt, shapeAt, recordAt, readingRefusal, readNext}
 use Rattle.session_file.specs.File.{State, state, fileRefusal, made, saidBy, saidOf}
-use Rattle.session_file.specs.Heads.{headAt}
-use Rattle.session_file.specs.Calls.{blankCall, recordOf, fieldsIn}
-use Rattle.session_file.specs.Steps.{placeAfter, earlyRefusal, callIn, stops, saidFew, saidAll, stepBy, stepOf, turnAt}
+use Rattle.session_file.specs.Calls.{recordOf, fieldsIn}
+use Rattle.session_file.specs.Steps.{recordIn, placeAfter, earlyRefusal, changeIn, stops, stepOf, saidAll}
+use Rattle.session_file.specs.Parts.{turnAt}
 use Rattle.session_file.proofs.FewEvents.{few-events}
-use Rattle.session_file.proofs.Reading.{kindRead, passed, read-good, read-bad, read-whole, read-kind}
+use Rattle.session_file.proofs.Reading.{kindRead, fields-kind, passed, read-good, read-bad, read-whole, read-kind}
 
 -- ---- the record of a call says that call
 call-of : (c : Call) → callOf (recordOf c) ≡ c
@@ -80,13 +77,9 @@ unfolding applied
 applied-is x c = rw (known c, call-of c)
 
 -- ---- what is said of an answer and of a change
-said-change : (x : Session) (c : Change) → inFew (saidFew (c .refusal) (c .events)) ≡ eventsIn (saidAll (madeOf x c))
-unfolding saidFew saidAll
-said-change x c = go (eqb (c .refusal) 0)
-  where
-    go : (t : Bool) → inFew (cond t (c .events) (few (Refused (c .refusal) ∷ []))) ≡ eventsIn (cond t (packed (inFew (c .events))) (packed (Refused (c .refusal) ∷ [])))
-    go true = sym (few-packed (c .events))
-    go false = sym (events-packed (Refused (c .refusal) ∷ []) (omega arith))
+said-change : (x : Session) (c : Change) → c .refusal ≡ 0 → inFew (c .events) ≡ eventsIn (saidAll (madeOf x c))
+unfolding saidAll
+said-change x c z = rw (eq-eqb (c .refusal) 0 z) (sym (few-packed (c .events)))
 
 said-answer : (x : Session) (stage : ℕ) (c : Call) → eventsIn (saidAll (answer x c)) ≡ saidBy (state stage x) (call c)
 unfolding saidAll saidBy answer
@@ -96,163 +89,190 @@ said-answer x stage c =
     (λ (t : eqb (refusal x c) 0 ≡ false). rw (t, t) (events-packed (Refused (refusal x c) ∷ []) (omega arith)))
     (tested (eqb (refusal x c) 0))
 
--- ---- a record with its fields f, read as r: what its step t comes to
-pub record Stepped (x : Session) (stage : ℕ) (r : Read) (f : Fields) (t : Step) : Type 0 where
-  pub refusal : t .refusal ≡ fileRefusal (state stage x) r
-  pub order-place : t .change .«order_at» < maxOrders
-  pub fill-place : t .change .«fill_at» < maxFills
+-- a refused call: the session as given, and its number
+refused-call : (x : Session) (stage : ℕ) (c : Call) (n : ℕ) → n ≡ answer x c .refusal → n ≢ 0
+    → (x ≡ answer x c .session) × (Refused n ∷ [] ≡ saidBy (state stage x) (call c))
+unfolding answer saidBy
+refused-call x stage c n is z = go (eqb (refusal x c) 0) is
+  where
+    go : (t : Bool) → n ≡ cond t (record { refusal = 0; session = effect x c; events = packed (events x c) }) (refusedBy x (refusal x c)) .refusal
+        → (x ≡ cond t (record { refusal = 0; session = effect x c; events = packed (events x c) }) (refusedBy x (refusal x c)) .session)
+        × (Refused n ∷ [] ≡ cond t (events x c) (Refused (refusal x c) ∷ []))
+    go true e = absurd (z e)
+    go false e = (refl, ap (λ (m : ℕ). Refused m ∷ []) e)
+
+-- ---- a record with its fields f, read as r: what is to be done with it, t, and what it changes, c
+pub record Stepped (x : Session) (stage : ℕ) (r : Read) (f : Fields) (c : Change) (t : Step) : Type 0 where
+  pub ends : t .ends ≡ not (eqb (fileRefusal (state stage x) r) 0)
+  pub order-place : c .«order_at» < maxOrders
+  pub fill-place : c .«fill_at» < maxFills
   -- the session after it, and what is said, by the way in which it is run
-  pub by-apply : t .undecided ≡ true
+  pub by-refusal : t .refusal ≢ 0
+      → (x ≡ cond (eqb (fileRefusal (state stage x) r) 0) (made (state stage x) r .session) x)
+      × (Refused (t .refusal) ∷ [] ≡ saidOf (state stage x) r)
+  pub by-opening : t .refusal ≡ 0 → t .opens ≡ true
+      → (fresh (f .params) (f .given) ≡ cond (eqb (fileRefusal (state stage x) r) 0) (made (state stage x) r .session) x)
+      × (Opened ∷ [] ≡ saidOf (state stage x) r)
+  pub by-apply : t .refusal ≡ 0 → t .opens ≡ false → c .undecided ≡ true
       → (applied x (f .call) .session ≡ cond (eqb (fileRefusal (state stage x) r) 0) (made (state stage x) r .session) x)
       × (eventsIn (saidAll (applied x (f .call))) ≡ saidOf (state stage x) r)
-  pub by-opening : t .opens ≡ true
-      → (fresh (f .params) (f .given) ≡ cond (eqb (fileRefusal (state stage x) r) 0) (made (state stage x) r .session) x)
-      × (inFew (t .said) ≡ saidOf (state stage x) r)
-  pub by-change : t .undecided ≡ false → t .opens ≡ false
-      → (changed x (t .change) ≡ cond (eqb (fileRefusal (state stage x) r) 0) (made (state stage x) r .session) x)
-      × (inFew (t .said) ≡ saidOf (state stage x) r)
+  pub by-change : t .refusal ≡ 0 → t .opens ≡ false → c .undecided ≡ false
+      → (changed x c ≡ cond (eqb (fileRefusal (state stage x) r) 0) (made (state stage x) r .session) x)
+      × (inFew (c .events) ≡ saidOf (state stage x) r)
 
--- what stands there already, written, changes nothing
-kept : (x : Session) (n : ℕ) → changed x (unchanged x n) ≡ x
-kept x n = rw (set-getD (x .orders) 0 noOrder, set-getD (x .fills) 0 noFill)
+-- the places of any record's change are among those of the arrays
+change-within : (x : Session) (f : Fields) → (changeIn x f .«order_at» < maxOrders) × (changeIn x f .«fill_at» < maxFills)
+unfolding recordChange
+change-within x f = go (eqb (f .kind) orderKind)
+  where
+    go : (t : Bool) → (cond t (orderChange x (f .row)) (changeFor x (f .call)) .«order_at» < maxOrders) × (cond t (orderChange x (f .row)) (changeFor x (f .call)) .«fill_at» < maxFills)
+    go true = order-placed x (f .row)
+    go false = change-placed x (f .call)
 
--- a call of no kind changes nothing
-abbrev noCall : CallRecord
-noCall = blankCall 255 (pos 0)
+-- the kind that the fields name
+kind-in : (r : Read) → fieldsIn r .kind ≡ kindRead r
+kind-in (refused number) = refl
+kind-in (header p g) = refl
+kind-in (order row) = refl
+kind-in (call c) = refl
 
-none-changed : (x : Session) → changeFor x noCall ≡ unchanged x (limitsRefusal x then 4)
-unfolding changeFor
-none-changed x = refl
+cond-not : {A : Type 0} (t : Bool) (a b : A) → cond (not t) a b ≡ cond t b a
+cond-not true a b = refl
+cond-not false a b = refl
 
-none-kept : (x : Session) → changed x (changeFor x noCall) ≡ x
-none-kept x = rw (none-changed x) (kept x (limitsRefusal x then 4))
+not-false : (t : Bool) → not t ≡ false → t ≡ true
+not-false true h = refl
+not-false false h = absurd (false≢true (sym h))
 
 module _ (x : Session) (stage : ℕ) where
   abbrev st : State
   st = state stage x
 
-  -- a record that ends the file, with a change that writes nothing new
-  stopped : (r : Read) (f : Fields) (n : ℕ) (c : Change) → n ≡ fileRefusal st r → n ≢ 0 → changed x c ≡ x → c .«order_at» < maxOrders → c .«fill_at» < maxFills
-      → Stepped x stage r f (stops n c)
+  -- a record that ends the file
+  stopped : (r : Read) (f : Fields) (n : ℕ) → n ≡ fileRefusal st r → n ≢ 0 → Stepped x stage r f (changeIn x f) (stops n)
   unfolding saidOf
-  stopped r f n c is z same o i = record {
-    refusal = is;
-    order-place = o;
-    fill-place = i;
-    by-apply = λ h. absurd (false≢true h);
-    by-opening = λ h. absurd (false≢true h);
-    by-change = λ _ _. (rw (← is, ne-eqb n 0 z) same, rw (← is, ne-eqb n 0 z));
+  stopped r f n is z = record {
+    ends = rw (← is, ne-eqb n 0 z);
+    order-place = change-within x f .0;
+    fill-place = change-within x f .1;
+    by-refusal = λ _. (rw (← is, ne-eqb n 0 z), rw (← is, ne-eqb n 0 z));
+    by-opening = λ e _. absurd (z e);
+    by-apply = λ e _ _. absurd (z e);
+    by-change = λ e _ _. absurd (z e);
   }
 
-  header-stepped : (p : Params) (g : Given) → Stepped x stage (header p g) (fieldsIn (header p g)) (stepOf x 0 (fieldsIn (header p g)))
-  unfolding stepBy earlyRefusal recordChange callIn _then_ fileRefusal made saidBy saidOf
-  header-stepped p g =
+  header-stepped : (p : Params) (g : Given) (n : ℕ) → let f = fieldsIn (header p g) in Stepped x stage (header p g) f (changeIn x f) (stepOf 0 f n)
+  unfolding stepOf earlyRefusal _then_ fileRefusal made saidBy saidOf
+  header-stepped p g n =
       ⊎-elim
       (λ (t : eqb (headerRefusal p g) 0 ≡ true). rw t (record {
-        refusal = sym (eqb-true _ 0 t);
-        order-place = change-placed x noCall .0;
-        fill-place = change-placed x noCall .1;
-        by-apply = λ h. absurd (false≢true h);
-        by-opening = λ _. (rw t, rw t);
-        by-change = λ _ h. absurd (false≢true (sym h));
+        ends = rw t;
+        order-place = change-within x (fieldsIn (header p g)) .0;
+        fill-place = change-within x (fieldsIn (header p g)) .1;
+        by-refusal = λ z. absurd (z refl);
+        by-opening = λ _ _. (rw t, rw t);
+        by-apply = λ _ h _. absurd (false≢true (sym h));
+        by-change = λ _ h _. absurd (false≢true (sym h));
       }))
-      (λ (t : eqb (headerRefusal p g) 0 ≡ false).
-      rw t (stopped (header p g) (fieldsIn (header p g)) (headerRefusal p g) (changeFor x noCall) refl (eqb-false _ 0 t) (none-kept x) (change-placed x noCall .0) (change-placed x noCall .1)))
+      (λ (t : eqb (headerRefusal p g) 0 ≡ false). rw t (stopped (header p g) (fieldsIn (header p g)) (headerRefusal p g) refl (eqb-false _ 0 t)))
       (tested (eqb (headerRefusal p g) 0))
 
-  -- the number of an order's change is the row's
+  -- an order's change: decided, and refused by the row's number
+  order-decided : (row : Row) → orderChange x row .undecided ≡ false
+  unfolding orderChange
+  order-decided row = go (eqb (orderRefusal x row) 0)
+    where
+      go : (t : Bool)
+          → cond t (writing (withOrder x row) false (x .«order_count») (listed row) 0 (fillAt x 0) 0 (few (Ordered (x .«order_count») ∷ []))) (unchanged x (orderRefusal x row)) .undecided ≡ false
+      go true = refl
+      go false = refl
+
   order-number : (row : Row) → orderChange x row .refusal ≡ orderRefusal x row
   unfolding orderChange
   order-number row =
       ⊎-elim (λ (t : eqb (orderRefusal x row) 0 ≡ true). rw t (sym (eqb-true _ 0 t))) (λ (t : eqb (orderRefusal x row) 0 ≡ false). rw t) (tested (eqb (orderRefusal x row) 0))
 
-  -- a refused order changes nothing
-  order-kept : (row : Row) → orderRefusal x row ≢ 0 → changed x (orderChange x row) ≡ x
+  order-said : (row : Row) → orderRefusal x row ≡ 0 → inFew (orderChange x row .events) ≡ Ordered (x .«order_count») ∷ []
   unfolding orderChange
-  order-kept row z = rw (ne-eqb (orderRefusal x row) 0 z) (kept x (orderRefusal x row))
+  order-said row z = rw (eq-eqb (orderRefusal x row) 0 z)
 
-  order-stepped : (row : Row) → Stepped x stage (order row) (fieldsIn (order row)) (stepOf x 0 (fieldsIn (order row)))
-  unfolding stepBy earlyRefusal recordChange callIn _then_ saidFew fileRefusal made saidBy saidOf
+  order-stepped : (row : Row) → let f = fieldsIn (order row) in Stepped x stage (order row) f (changeIn x f) (stepOf 0 f (changeIn x f .refusal))
+  unfolding stepOf earlyRefusal recordChange _then_ fileRefusal made saidBy saidOf
   order-stepped row = record {
-    refusal = order-number row;
+    ends = ap (λ (n : ℕ). not (eqb n 0)) (order-number row);
     order-place = order-placed x row .0;
     fill-place = order-placed x row .1;
-    by-apply = λ h. absurd (false≢true h);
-    by-opening = λ h. absurd (false≢true h);
-    by-change = λ _ _.
-        ⊎-elim
-        (λ (t : eqb (orderRefusal x row) 0 ≡ true).
-        let e : eqb (orderChange x row .refusal) 0 ≡ true = ap (λ (n : ℕ). eqb n 0) (order-number row) ∙ t in
-        (rw t (order-written x row (eqb-true _ 0 t)), rw (e, t)))
-        (λ (t : eqb (orderRefusal x row) 0 ≡ false).
-        let e : eqb (orderChange x row .refusal) 0 ≡ false = ap (λ (n : ℕ). eqb n 0) (order-number row) ∙ t in
-        (rw t (order-kept row (eqb-false _ 0 t)), rw (e, t) (ap (λ (n : ℕ). Refused n ∷ []) (order-number row))))
-        (tested (eqb (orderRefusal x row) 0));
+    by-refusal = λ z.
+        let e : eqb (orderRefusal x row) 0 ≡ false = rw (← order-number row) (ne-eqb (orderChange x row .refusal) 0 z) in
+        (rw e, rw e (ap (λ (n : ℕ). Refused n ∷ []) (order-number row)));
+    by-opening = λ _ h. absurd (false≢true h);
+    by-apply = λ _ _ h. absurd (false≢true (sym (order-decided row) ∙ h));
+    by-change = λ z _ _.
+        let n = sym (order-number row) ∙ z in
+        (rw (eq-eqb (orderRefusal x row) 0 n) (order-written x row n), rw (eq-eqb (orderRefusal x row) 0 n) (order-said row n));
   }
 
-  call-stepped : (c : Call) → Stepped x stage (call c) (fieldsIn (call c)) (stepOf x 0 (fieldsIn (call c)))
-  unfolding stepBy earlyRefusal recordChange callIn _then_ fileRefusal made saidOf
+  call-stepped : (c : Call) → let f = fieldsIn (call c) in Stepped x stage (call c) f (changeIn x f) (stepOf 0 f (changeIn x f .refusal))
+  unfolding stepOf earlyRefusal recordChange _then_ fileRefusal made saidOf
   call-stepped c =
       ⊎-elim
       (λ (t : eqb (argumentsRefusal c) 0 ≡ true). rw (arguments-are c, t) (record {
-        refusal = sym (eqb-true _ 0 t);
+        ends = rw t;
         order-place = change-placed x (recordOf c) .0;
         fill-place = change-placed x (recordOf c) .1;
-        by-apply = λ _. (rw (t, applied-is x c), rw (t, applied-is x c) (said-answer x stage c));
-        by-opening = λ h. absurd (false≢true h);
-        by-change = λ h _.
+        by-refusal = λ z.
+            let k = changeFor x (recordOf c) in
+            let d : k .undecided ≡ false = ⊎-elim (λ (h : k .undecided ≡ true). absurd (z (unrefused x (recordOf c) h))) (λ (h : k .undecided ≡ false). h) (tested (k .undecided)) in
+            let e = refused-call x stage c (k .refusal) (ap (λ (a : Answer). a .refusal) (change-applied x (recordOf c) d ∙ applied-is x c)) z in
+            (rw t (e .0), rw t (e .1));
+        by-opening = λ _ h. absurd (false≢true h);
+        by-apply = λ _ _ _. (rw (t, applied-is x c), rw (t, applied-is x c) (said-answer x stage c));
+        by-change = λ z _ h.
             let e : madeOf x (changeFor x (recordOf c)) ≡ answer x c = change-applied x (recordOf c) h ∙ applied-is x c in
-            (rw t (ap (λ (a : Answer). a .session) e), rw t (said-change x (changeFor x (recordOf c)) ∙ ap (λ (a : Answer). eventsIn (saidAll a)) e ∙ said-answer x stage c));
+            (rw t (ap (λ (a : Answer). a .session) e), rw t (said-change x (changeFor x (recordOf c)) z ∙ ap (λ (a : Answer). eventsIn (saidAll a)) e ∙ said-answer x stage c));
       }))
-      (λ (t : eqb (argumentsRefusal c) 0 ≡ false).
-      rw (arguments-are c, t) (stopped (call c) (fieldsIn (call c)) (argumentsRefusal c) (changeFor x noCall) refl (eqb-false _ 0 t) (none-kept x) (change-placed x noCall .0) (change-placed x noCall .1)))
+      (λ (t : eqb (argumentsRefusal c) 0 ≡ false). rw (arguments-are c, t) (stopped (call c) (fieldsIn (call c)) (argumentsRefusal c) refl (eqb-false _ 0 t)))
       (tested (eqb (argumentsRefusal c) 0))
 
-  of-read : (r : Read) → 0 < kindRead r → Stepped x stage r (fieldsIn r) (stepOf x 0 (fieldsIn r))
+  of-read : (r : Read) → 0 < kindRead r → Stepped x stage r (fieldsIn r) (changeIn x (fieldsIn r)) (stepOf 0 (fieldsIn r) (changeIn x (fieldsIn r) .refusal))
   of-read (refused m) h = absurd (omega arith)
-  of-read (header p g) h = header-stepped p g
+  of-read (header p g) h = header-stepped p g _
   of-read (order row) h = order-stepped row
   of-read (call c) h = call-stepped c
 
   -- a refused reading ends the file
-  bad-stepped : (n : ℕ) (f : Fields) → n ≢ 0 → Stepped x stage (refused n) f (stepOf x n f)
-  unfolding stepBy earlyRefusal recordChange callIn _then_ fileRefusal
-  bad-stepped n f z = rw (ne-eqb n 0 z, ne-eqb n 0 z) (stopped (refused n) f n (changeFor x noCall) refl z (none-kept x) (change-placed x noCall .0) (change-placed x noCall .1))
+  bad-stepped : (n : ℕ) (f : Fields) (m : ℕ) → n ≢ 0 → Stepped x stage (refused n) f (changeIn x f) (stepOf n f m)
+  unfolding stepOf earlyRefusal _then_ fileRefusal
+  bad-stepped n f m z = rw (ne-eqb n 0 z, ne-eqb n 0 z) (stopped (refused n) f n refl z)
 
-  pub read-stepped : (rest : List ℕ) (f : Fields) → f ≡ fieldsIn (fieldsOf (markAt rest) (recordAt rest))
-      → Stepped x stage (readNext stage rest) f (stepOf x (readingRefusal stage rest) f)
-  read-stepped rest f is =
+  pub read-stepped : (rest : List ℕ) → let f = fieldsIn (fieldsOf (markAt rest) (recordAt rest)) in
+      Stepped x stage (readNext stage rest) f (changeIn x f) (stepOf (readingRefusal stage rest) f (changeIn x f .refusal))
+  read-stepped rest =
       ⊎-elim
       (λ (t : eqb (readingRefusal stage rest) 0 ≡ true).
       let z = eqb-true _ 0 t in
       let k : 0 < kindRead (readNext stage rest) = rw (read-kind stage rest z) (passed stage rest z .known) in
-      rw (is, z, ← read-good stage rest z) (of-read (readNext stage rest) k))
-      (λ (t : eqb (readingRefusal stage rest) 0 ≡ false). let z = eqb-false _ 0 t in rw (read-bad stage rest z) (bad-stepped (readingRefusal stage rest) f z))
+      rw (z, ← read-good stage rest z) (of-read (readNext stage rest) k))
+      (λ (t : eqb (readingRefusal stage rest) 0 ≡ false). let z = eqb-false _ 0 t in rw (read-bad stage rest z) (bad-stepped (readingRefusal stage rest) _ _ z))
       (tested (eqb (readingRefusal stage rest) 0))
 
--- the step from the parts that the code finds in turn
-pub step-parts : (x : Session) (n : ℕ) (f : Fields) {m : ℕ} {o : Bool} {k : CallRecord} {c : Change} {t : Step} → m ≡ earlyRefusal n f → o ≡ (eqb m 0 && eqb (f .kind) orderKind)
-    → k ≡ callIn m (f .kind) (f .call) → c ≡ recordChange x o (f .row) k → t ≡ stepBy m (f .kind) c (x .«order_count») → t ≡ stepOf x n f
-step-parts x n f is wants asks change step = rw (step, change, wants, asks, is)
+-- ---- as the code comes to it: the record, what it changes, and what is to be done with it
+module _ (s : List ℕ) (p : Place) (x : Session) {r : Record} {c : Change} {t : Step} (is : r ≡ recordIn s p)
+    (change : c ≡ changeIn x (r .fields)) (step : t ≡ stepOf (r .refusal) (r .fields) (c .refusal)) where
+  pub code-stepped : Stepped x (p .stage) (readNext (p .stage) (drop (p .at) s)) (r .fields) c t
+  code-stepped = rw (step, change, is) (read-stepped x (p .stage) (drop (p .at) s))
 
--- ---- as the code comes to it: the bytes left, the record's head and own bytes, its fields, its step
-module _ (s : List ℕ) (p : Place) (x : Session) {rest own : List ℕ} {h : Head} {f : Fields} {t : Step} (left : rest ≡ drop (p .at) s)
-    (head : h ≡ headAt (p .stage) rest) (bytes : own ≡ take (h .width) rest) (read : f ≡ fieldsIn (fieldsOf (h .mark) own)) (step : t ≡ stepOf x (h .refusal) f) where
-  head-is : h ≡ headAt (p .stage) (drop (p .at) s)
-  head-is = head ∙ ap (headAt (p .stage)) left
-
-  pub code-stepped : Stepped x (p .stage) (readNext (p .stage) (drop (p .at) s)) f t
-  code-stepped =
-      rw (step, head-is)
-      (read-stepped x (p .stage) (drop (p .at) s) f (rw (bytes, left, head-is) at read))
+  kind-is : r .fields .kind ≡ shapeAt (drop (p .at) s) .kind
+  kind-is = rw is (kind-in (fieldsOf (markAt (drop (p .at) s)) (recordAt (drop (p .at) s))) ∙ fields-kind (markAt (drop (p .at) s)) (recordAt (drop (p .at) s)))
 
   -- the next place
-  pub code-place : placeAfter p h (t .refusal) (length s) ≡ turnAt s p x .place
+  pub code-place : placeAfter p (r .fields .kind) (r .width) (t .ends) (length s) ≡ turnAt s p x .place
   unfolding placeAfter turnAt
-  code-place = rw (code-stepped .refusal, head-is)
+  code-place = rw (code-stepped .ends, kind-is, is) (cond-not (eqb (fileRefusal (state (p .stage) x) (readNext (p .stage) (drop (p .at) s))) 0) _ _)
 
-  pub code-fits : p .at ≤ length s → t .refusal ≡ 0 → p .at + h .width ≤ length s
+  pub code-fits : p .at ≤ length s → t .ends ≡ false → p .at + r .width ≤ length s
   code-fits within z =
-      let r = drop (p .at) s in
-      let q = passed (p .stage) r (read-whole (p .stage) r (state (p .stage) x) (sym (code-stepped .refusal) ∙ z)) in
-      rw head-is (omega (arith, q .whole, length-drop (p .at) s))
+      let left = drop (p .at) s in
+      let good = eqb-true _ 0 (not-false _ (sym (code-stepped .ends) ∙ z)) in
+      let q = passed (p .stage) left (read-whole (p .stage) left (state (p .stage) x) good) in
+      rw is (omega (arith, q .whole, length-drop (p .at) s))

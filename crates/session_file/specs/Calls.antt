@@ -47,6 +47,10 @@ recordOf (skip now i reason) = filled 6 now 0 0 0 false noInvestor 0 noWallet i 
 recordOf (finish now) = blankCall 7 now
 recordOf (expire now) = blankCall 8 now
 
+-- no call is of that kind
+abbrev pub noCall : CallRecord
+noCall = blankCall 255 (pos 0)
+
 -- the blank fields of each kind
 abbrev pub blankParams : Params
 blankParams =
@@ -60,13 +64,13 @@ blankRow = record { owner = noWallet; side = 0; escrowed = 0; revealed = false; 
 
 -- the struct of a record's fields, by its kind
 abbrev pub noFields : Fields
-noFields = record { kind = noKind; params = blankParams; given = blankGiven; row = blankRow; call = blankCall 0 (pos 0) }
+noFields = record { kind = noKind; params = blankParams; given = blankGiven; row = blankRow; call = noCall }
 
 abbrev pub headerFields : Params → Given → Fields
-headerFields p g = record { kind = headerKind; params = p; given = g; row = blankRow; call = blankCall 0 (pos 0) }
+headerFields p g = record { kind = headerKind; params = p; given = g; row = blankRow; call = noCall }
 
 abbrev pub orderFields : Row → Fields
-orderFields r = record { kind = orderKind; params = blankParams; given = blankGiven; row = r; call = blankCall 0 (pos 0) }
+orderFields r = record { kind = orderKind; params = blankParams; given = blankGiven; row = r; call = noCall }
 
 abbrev pub callFields : CallRecord → Fields
 callFields c = record { kind = callKind; params = blankParams; given = blankGiven; row = blankRow; call = c }

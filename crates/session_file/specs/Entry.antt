@@ -2,11 +2,11 @@
 use mathlib.Core.Path.{_≡_}
 use mathlib.Core.Bool.{Bool, cond}
 use mathlib.Core.List.{List}
-use Prim.Native.Nat.{ℕ, _≤_}
+use Prim.Native.Nat.{ℕ}
 use lib.Dec.{leb}
 use lib.IntN.{ℤ, pos, negsuc}
 use lib.ListN.{length, replicate}
-use Rattle.listing.specs.Writing.{splice, written}
+use Rattle.listing.specs.Writing.{splice}
 use Rattle.listing.specs.declared.Written.{Written}
 use Rattle.session_file.specs.File.{maxInput, listing}
 
@@ -33,9 +33,3 @@ listAnswer s out =
 pub record Listed (input : List ℕ) (r : Written) (before after : List ℕ) : Type 0 where
   pub answer : r ≡ listAnswer input before
   pub output : after ≡ entryOutput input before
-
--- on the way: the listing of a file that is not too long, where it fits
-pub record Ran (input : List ℕ) (r : Written) (before after : List ℕ) : Type 0 where
-  pub answer : r ≡ written (listing input) before
-  pub bytes : length (listing input) ≤ length before → after ≡ splice 0 (listing input) before
-  pub same-length : length after ≡ length before

@@ -10,3 +10,4 @@ pub mod Heads
 pub mod Calls
 pub mod Steps
 pub mod Parts
+pub mod PartSteps

@@ -2,28 +2,41 @@
 use mathlib.Core.Path.{_≡_}
 use mathlib.Core.Bool.{Bool, true, false, cond}
 use mathlib.Core.List.{List, [], _∷_, _++_}
-use Prim.Native.Nat.{ℕ, zero, suc, _+_, _-_, _%_, _^_, _≤_, _<_}
+use Prim.Native.Nat.{ℕ, zero, suc, _+_, _%_, _^_, _≤_, _<_}
 use lib.Dec.{ltb, eqb}
-use lib.ListN.{length}
-use Rattle.laws.specs.Sums.{only}
-use Rattle.events.specs.Events.{packed, eventsIn, inFew}
+use lib.ListN.{length, drop}
+use Rattle.events.specs.declared.Event.{Event}
 use Rattle.events.specs.declared.Event.the-variants.{Refused}
 use Rattle.listing.specs.Lines.{recordLines, maxRecord}
 use Rattle.listing.specs.Writing.{Writes}
 use Rattle.auction_engine.specs.declared.Session.{Session}
-use Rattle.auction_engine.specs.Session.{fresh}
-use Rattle.auction_engine.specs.Engine.{applied}
-use Rattle.auction_engine.specs.Changes.{changed}
-use Rattle.session_file.specs.declared.fields.Fields.{Fields}
 use Rattle.session_file.specs.declared.file.Place.{Place}
-use Rattle.session_file.specs.declared.file.Step.{Step}
 use Rattle.session_file.specs.declared.parts.Standing.{Standing}
 use Rattle.session_file.specs.declared.parts.Part.{Part}
-use Rattle.session_file.specs.declared.parts.Next.{Next}
-use Rattle.session_file.specs.declared.parts.Turned.{Turned}
 use Rattle.session_file.specs.Marks.{noKind}
-use Rattle.session_file.specs.File.{state, unopened, lastLine, maxInput, listing}
-use Rattle.session_file.specs.Steps.{saidAll, turnAt}
+use Rattle.session_file.specs.Fields.{Read}
+use Rattle.session_file.specs.Reads.{shapeAt, readNext}
+use Rattle.session_file.specs.File.{State, state, unopened, fileRefusal, made, saidOf, lastLine, maxInput, listing}
+
+-- what the record at a place leaves, where s is the file and x the session: the place after it, the session, and what is said
+pub record Turn : Type 0 where
+  pub place : Place
+  pub session : Session
+  pub said : List Event
+
+unfoldable pub turnAt : List ℕ → Place → Session → Turn
+turnAt s p x =
+    let rest : List ℕ = drop (p .at) s in
+    let f : State = state (p .stage) x in
+    let r : Read = readNext (p .stage) rest in
+    record {
+      place =
+          cond (eqb (fileRefusal f r) 0)
+          (record { at = p .at + shapeAt rest .width; stage = shapeAt rest .kind })
+          (record { at = length s; stage = p .stage });
+      session = cond (eqb (fileRefusal f r) 0) (made f r .session) x;
+      said = saidOf f r;
+    }
 
 -- a listing at a place of the file, with so many records behind it
 abbrev pub standingAt : Place → Session → (number : ℕ) (tooLong ended : Bool) → Standing
@@ -75,34 +88,3 @@ standingFrom (suc n) s t = standingFrom n s (standingAfter s t)
 pub record PartsAreListing : Type 0 where
   pub whole : (s : List ℕ) → length s ≤ maxInput → (n : ℕ) → length s < n → (partsFrom n s (begun false) ≡ listing s) × (standingFrom n s (begun false) .ended ≡ true)
   pub too-long : (s input : List ℕ) → maxInput < length input → (n : ℕ) → 2 ≤ n → (partsFrom n s (begun true) ≡ listing input) × (standingFrom n s (begun true) .ended ≡ true)
-
--- ---- devices: what falls with each part, and what the private functions hand on
-abbrev pub partsLeft : List ℕ → Standing → ℕ
-partsLeft s t = cond (t .ended) 0 (suc (only (t .«too_long») 1 + (length s - t .place .at)))
-
--- 26 is said, and nothing is read
-abbrev pub wholeRefused : Standing → (end : ℕ) → Next
-wholeRefused t end =
-    record {
-      said = packed (Refused 26 ∷ []);
-      standing = standingAt (record { at = end; stage = t .place .stage }) (t .session) (nextNumber (t .number)) false (t .ended);
-    }
-
--- the record at the place
-pub record RecordNext (s : List ℕ) (t : Standing) (r : Next) : Type 0 where
-  pub said : eventsIn (r .said) ≡ turnAt s (t .place) (t .session) .said
-  pub standing : r .standing
-      ≡ standingAt (turnAt s (t .place) (t .session) .place) (turnAt s (t .place) (t .session) .session) (nextNumber (t .number)) (t .«too_long») (t .ended)
-
--- the next part by what is said; the last line is not among it
-pub record NextOf (s : List ℕ) (t : Standing) (r : Next) : Type 0 where
-  pub part : r .standing .ended ≡ false → partAt s t ≡ recordLines (t .number) (eventsIn (r .said))
-  pub last : r .standing .ended ≡ true → partAt s t ≡ lastLine (state (t .place .stage) (t .session))
-  pub standing : r .standing ≡ standingAfter s t
-
--- the session after a record and what is said of it, by the way in which it is run
-unfoldable pub turnOf : Session → Step → Fields → Turned
-turnOf x t f =
-    cond (t .undecided) (record { session = applied x (f .call) .session; said = saidAll (applied x (f .call)) })
-    (cond (t .opens) (record { session = fresh (f .params) (f .given); said = packed (inFew (t .said)) })
-    (record { session = changed x (t .change); said = packed (inFew (t .said)) }))

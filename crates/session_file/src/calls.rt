@@ -7,6 +7,9 @@ ghost use Rattle.session_file.specs.Calls.{blankCall, recordOf};
 use crate::bytes;
 use auction_engine::CallRecord;
 
+// No call is of this kind.
+pub const NO_CALL: u8 = 255;
+
 // A call of a kind at a time, with no other argument.
 pub fn blank(kind: u8, now: i64) -> CallRecord
     ensures { λ r. ⌜ r ≡ blankCall kind now ⌝ }

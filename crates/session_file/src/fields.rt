@@ -2,8 +2,10 @@
 ghost use mathlib.Core.Path.{_≡_};
 ghost use Rattle.session_file.specs.Fields.{paramsOf, givenOf, rowOf, header, order, fieldsOf};
 ghost use Rattle.session_file.specs.Calls.{blankParams, blankGiven, blankRow, noFields, headerFields, orderFields, callFields, fieldsIn};
+ghost use Rattle.session_file.specs.Steps.{recordIn};
 use crate::bytes;
 use crate::calls;
+use crate::file::Place;
 use crate::records;
 use crate::records::Mark;
 use auction_engine::CallRecord;
@@ -18,6 +20,28 @@ pub struct Fields {
     pub given: Given,
     pub row: Row,
     pub call: CallRecord,
+}
+
+// A record of a file: what reading refuses it by, its bytes in all, and its fields.
+pub struct Record {
+    pub refusal: u8,
+    pub width: usize,
+    pub fields: Fields,
+}
+
+// The record at a place of a file.
+pub fn record_at(input: &[u8], place: Place) -> Record
+    ensures { λ r. ⌜ r ≡ recordIn (now (input .entry)) place ⌝ }
+{
+    let rest = records::rest_of(input, place.at);
+    let head = records::head_of(rest, place.stage);
+    let mark = head.mark;
+    let fields = read(mark, records::own_bytes(rest, head.width));
+    Record {
+        refusal: head.refusal,
+        width: head.width,
+        fields,
+    }
 }
 
 // The one dispatch. An unknown mark has no fields.
@@ -48,7 +72,7 @@ fn blank() -> Fields
         params: no_params(),
         given: no_given(),
         row: no_row(),
-        call: calls::blank(0, 0),
+        call: calls::blank(calls::NO_CALL, 0),
     }
 }
 
@@ -60,7 +84,7 @@ fn of_header(params: Params, given: Given) -> Fields
         params,
         given,
         row: no_row(),
-        call: calls::blank(0, 0),
+        call: calls::blank(calls::NO_CALL, 0),
     }
 }
 
@@ -72,7 +96,7 @@ fn of_order(row: Row) -> Fields
         params: no_params(),
         given: no_given(),
         row,
-        call: calls::blank(0, 0),
+        call: calls::blank(calls::NO_CALL, 0),
     }
 }
 

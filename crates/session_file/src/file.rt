@@ -1,18 +1,17 @@
 // What a record of a file does to the session, and what is said of it.
 ghost use mathlib.Core.Path.{_≡_};
-ghost use mathlib.Core.Bool.{_&&_};
+ghost use mathlib.Core.Bool.{false};
+ghost use mathlib.Core.List.{[], _∷_};
 ghost use Prim.Native.Nat.{_+_, _<_, _^_};
-ghost use lib.Dec.{eqb};
 ghost use Rattle.session_file.specs.File.{unopened};
-ghost use Rattle.session_file.specs.Steps.{placeAfter, earlyRefusal, callIn, headerStep, orderStep, stepBy, saidFew, saidAll};
-use crate::calls;
+ghost use Rattle.events.specs.Events.{few};
+ghost use Rattle.events.specs.declared.Event.the-variants.{Opened, Refused};
+ghost use Rattle.session_file.specs.Steps.{placeAfter, earlyRefusal, stepOf, saidAll};
 use crate::fields::Fields;
 use crate::records;
-use crate::records::Head;
 use auction_engine::Answer;
-use auction_engine::CallRecord;
 use auction_engine::Session;
-use auction_engine::changes::Change;
+use auction_engine::both;
 use auction_engine::opening;
 use book::Given;
 use book::Params;
@@ -26,20 +25,20 @@ pub struct Place {
     pub stage: u8,
 }
 
-// The next place: after the record, or at the end of the input where the record ends the file.
-pub(crate) fn place_after(place: Place, head: Head, refusal: u8, end: usize) -> Place
-    requires { ⌜ (refusal ≡ 0 → place .at + head .width < 2 ^ 64) ⌝ }
-    ensures { λ r. ⌜ r ≡ placeAfter place head refusal end ⌝ }
+// The next place: after a record of that kind and width, or at the end of the input where the record ends the file.
+pub(crate) fn place_after(place: Place, kind: u8, width: usize, ends: bool, end: usize) -> Place
+    requires { ⌜ (ends ≡ false → place .at + width < 2 ^ 64) ⌝ }
+    ensures { λ r. ⌜ r ≡ placeAfter place kind width ends end ⌝ }
 {
-    if refusal != 0 {
+    if ends {
         return Place {
             at: end,
             stage: place.stage,
         };
     }
     Place {
-        at: place.at + head.width,
-        stage: head.kind,
+        at: place.at + width,
+        stage: kind,
     }
 }
 
@@ -66,20 +65,44 @@ pub(crate) fn unopened() -> Session
     Session::new(params, given)
 }
 
-// What a record does.
+// What is to be done with a record.
 pub struct Step {
-    // The number that ends the file, or 0.
+    // The number that is said of it, or 0; then nothing is changed.
     pub refusal: u8,
-    // A header: the session is opened anew.
+    // It ends the file.
+    pub ends: bool,
+    // It opens the session.
     pub opens: bool,
-    // A call whose answer only `apply` has.
-    pub undecided: bool,
-    pub change: Change,
-    pub said: Few,
+}
+
+// By what reading refuses, the fields, and what refuses the change. A refused order ends the file; a refused call lets it go on.
+pub(crate) fn step_of(refusal: u8, f: Fields, changing: u8) -> Step
+    ensures { λ r. ⌜ r ≡ stepOf refusal f changing ⌝ }
+{
+    let early = early_refusal(refusal, f);
+    if early != 0 {
+        return Step {
+            refusal: early,
+            ends: true,
+            opens: false,
+        };
+    }
+    if f.kind == records::HEADER {
+        return Step {
+            refusal: 0,
+            ends: false,
+            opens: true,
+        };
+    }
+    Step {
+        refusal: changing,
+        ends: both(f.kind == records::ORDER, changing != 0),
+        opens: false,
+    }
 }
 
 // What ends the file before the session is looked at: the reading's refusal, the header's row, or 4 of a call's own arguments.
-pub(crate) fn early_refusal(refusal: u8, f: Fields) -> u8
+fn early_refusal(refusal: u8, f: Fields) -> u8
     ensures { λ r. ⌜ r ≡ earlyRefusal refusal f ⌝ }
 {
     if refusal != 0 {
@@ -96,90 +119,19 @@ pub(crate) fn early_refusal(refusal: u8, f: Fields) -> u8
     }
 }
 
-// Whether nothing ended the file so far, and the record is of that kind.
-pub(crate) fn is_kind(refusal: u8, kind: u8, wanted: u8) -> bool
-    ensures { λ r. ⌜ r ≡ (eqb refusal 0 && eqb kind wanted) ⌝ }
+pub(crate) fn refused(number: u8) -> Few
+    ensures { λ r. ⌜ r ≡ few (Refused number ∷ []) ⌝ }
 {
-    auction_engine::both(refusal == 0, kind == wanted)
+    Few::one(Event::Refused(number))
 }
 
-// The call of a record that nothing refused so far; else one of no kind, which changes nothing.
-pub(crate) fn call_of(refusal: u8, kind: u8, call: CallRecord) -> CallRecord
-    ensures { λ r. ⌜ r ≡ callIn refusal kind call ⌝ }
+pub(crate) fn opened() -> Few
+    ensures { λ r. ⌜ r ≡ few (Opened ∷ []) ⌝ }
 {
-    if is_kind(refusal, kind, records::CALL) {
-        return call;
-    }
-    calls::blank(NO_CALL, 0)
+    Few::one(Event::Opened)
 }
 
-const NO_CALL: u8 = 255;
-
-// The step of a record, from what it changes. The session itself is not handed on: it is large.
-pub(crate) fn step_of(refusal: u8, kind: u8, change: Change, orders: usize) -> Step
-    ensures { λ r. ⌜ r ≡ stepBy refusal kind change orders ⌝ }
-{
-    if refusal != 0 {
-        let said = Few::one(Event::Refused(refusal));
-        return Step {
-            refusal,
-            opens: false,
-            undecided: false,
-            change,
-            said,
-        };
-    }
-    match kind {
-        1 => header_step(change),
-        2 => order_step(change, orders),
-        _ => Step {
-            refusal: 0,
-            opens: false,
-            undecided: change.undecided,
-            change,
-            said: said_few(change.refusal, change.events),
-        },
-    }
-}
-
-fn header_step(change: Change) -> Step
-    ensures { λ r. ⌜ r ≡ headerStep change ⌝ }
-{
-    let said = Few::one(Event::Opened);
-    Step {
-        refusal: 0,
-        opens: true,
-        undecided: false,
-        change,
-        said,
-    }
-}
-
-// A refused order ends the file.
-fn order_step(change: Change, orders: usize) -> Step
-    ensures { λ r. ⌜ r ≡ orderStep change orders ⌝ }
-{
-    let refusal = change.refusal;
-    Step {
-        refusal,
-        opens: false,
-        undecided: false,
-        change,
-        said: said_few(refusal, Few::one(Event::Ordered(orders as u64))),
-    }
-}
-
-// What is said: the refusal, or else the events.
-fn said_few(refusal: u8, events: Few) -> Few
-    ensures { λ r. ⌜ r ≡ saidFew refusal events ⌝ }
-{
-    if refusal != 0 {
-        return Few::one(Event::Refused(refusal));
-    }
-    events
-}
-
-// What is said of an answer, likewise.
+// What is said of an answer: the refusal, or else the events.
 pub(crate) fn said_all(a: Answer) -> Events
     ensures { λ r. ⌜ r ≡ saidAll a ⌝ }
 {

@@ -7,7 +7,8 @@ ghost use lib.ListN.{length, replicate};
 ghost use Rattle.listing.specs.Writing.{Writes};
 ghost use Rattle.listing.specs.Lines.{endLine};
 ghost use Rattle.session_file.specs.File.{maxInput};
-ghost use Rattle.session_file.specs.Entry.{Listed, Entered, Ran};
+ghost use Rattle.session_file.specs.Entry.{Listed, Entered};
+ghost use Rattle.session_file.specs.Steps.{Ran};
 use crate::file::Place;
 use auction_engine::Session;
 use listing::Written;
@@ -65,44 +66,40 @@ fn run_file(input: &[u8], out: &mut [u8]) -> Written
     let mut number: u64 = 0;
     let mut at = 0;
     while place.at < input.len() {
-        let rest = records::rest_of(input, place.at);
-        let head = records::head_of(rest, place.stage);
-        let mark = head.mark;
-        let f = fields::read(mark, records::own_bytes(rest, head.width));
-        let refusal = file::early_refusal(head.refusal, f);
-        let order = file::is_kind(refusal, f.kind, records::ORDER);
-        let call = file::call_of(refusal, f.kind, f.call);
-        let change = session.change(order, f.row, call);
-        let step = file::step_of(refusal, f.kind, change, session.order_count);
-        let written = if step.undecided {
+        let r = fields::record_at(input, place);
+        let f = r.fields;
+        let change = session.change(f.kind == records::ORDER, f.row, f.call);
+        let step = file::step_of(r.refusal, f, change.refusal);
+        let written = if step.refusal != 0 {
+            listing::put_few(&mut out[at..], number, file::refused(step.refusal))
+        } else if step.opens {
+            session = Session::new(f.params, f.given);
+            listing::put_few(&mut out[at..], number, file::opened())
+        } else if change.undecided {
             let a = session.apply(f.call);
             session = a.session;
             listing::put_events(&mut out[at..], number, file::said_all(a))
-        } else if step.opens {
-            session = Session::new(f.params, f.given);
-            listing::put_few(&mut out[at..], number, step.said)
         } else {
-            let order = step.change.order;
-            let fill = step.change.fill;
-            let i = step.change.order_at;
-            let j = step.change.fill_at;
+            let order = change.order;
+            let fill = change.fill;
+            let i = change.order_at;
+            let j = change.fill_at;
             session.orders[i] = order;
             session.fills[j] = fill;
-            session.phase = step.change.phase;
-            session.fills_settled = step.change.fills_settled;
-            session.skipped_fills = step.change.skipped_fills;
-            session.order_count = step.change.order_count;
-            listing::put_few(&mut out[at..], number, step.said)
+            session.phase = change.phase;
+            session.fills_settled = change.fills_settled;
+            session.skipped_fills = change.skipped_fills;
+            session.order_count = change.order_count;
+            listing::put_few(&mut out[at..], number, change.events)
         };
         if written.refusal != 0 {
             return written;
         }
         at = at + written.len;
         number = number + 1;
-        place = file::place_after(place, head, step.refusal, input.len());
+        place = file::place_after(place, f.kind, r.width, step.ends, input.len());
     }
-    let last = put_last(&mut out[at..], place.stage, session);
-    ended(at, last)
+    ended(at, put_last(&mut out[at..], place.stage, session))
 }
 
 fn put_last(out: &mut [u8], stage: u8, s: Session) -> Written

@@ -3,7 +3,8 @@ ghost use mathlib.Core.Path.{_≡_};
 ghost use Prim.Native.Nat.{_<_};
 ghost use lib.ListN.{length};
 ghost use mathlib.Core.Bool.{false};
-ghost use Rattle.session_file.specs.Parts.{begun, PartPut, wholeRefused, NextOf, RecordNext, turnOf};
+ghost use Rattle.session_file.specs.Parts.{begun, PartPut};
+ghost use Rattle.session_file.specs.PartSteps.{wholeRefused, NextOf, RecordNext, turnOf};
 use crate::fields;
 use crate::fields::Fields;
 use crate::file;
@@ -11,6 +12,7 @@ use crate::file::Place;
 use crate::file::Step;
 use crate::records;
 use auction_engine::Session;
+use auction_engine::changes::Change;
 use events::Event;
 use events::Events;
 use listing::Written;
@@ -125,20 +127,15 @@ fn record_next(input: &[u8], s: Standing) -> Next
 {
     let place = s.place;
     let session = s.session;
-    let rest = records::rest_of(input, place.at);
-    let head = records::head_of(rest, place.stage);
-    let mark = head.mark;
-    let f = fields::read(mark, records::own_bytes(rest, head.width));
-    let refusal = file::early_refusal(head.refusal, f);
-    let order = file::is_kind(refusal, f.kind, records::ORDER);
-    let call = file::call_of(refusal, f.kind, f.call);
-    let change = session.change(order, f.row, call);
-    let step = file::step_of(refusal, f.kind, change, session.order_count);
-    let turn = turn_of(session, step, f);
+    let r = fields::record_at(input, place);
+    let f = r.fields;
+    let change = session.change(f.kind == records::ORDER, f.row, f.call);
+    let step = file::step_of(r.refusal, f, change.refusal);
+    let turn = turn_of(session, step, change, f);
     let said = turn.said;
     let after = turn.session;
     let standing = Standing {
-        place: file::place_after(place, head, step.refusal, input.len()),
+        place: file::place_after(place, f.kind, r.width, step.ends, input.len()),
         number: std::num::wrapping_add_u64(s.number, 1),
         too_long: s.too_long,
         ended: s.ended,
@@ -153,11 +150,24 @@ struct Turned {
     said: Events,
 }
 
-fn turn_of(session: Session, step: Step, f: Fields) -> Turned
-    ensures { λ r. ⌜ r ≡ turnOf session step f ⌝ }
+fn turn_of(session: Session, step: Step, change: Change, f: Fields) -> Turned
+    ensures { λ r. ⌜ r ≡ turnOf session step change f ⌝ }
 {
-    let few = step.said;
-    if step.undecided {
+    if step.refusal != 0 {
+        let few = file::refused(step.refusal);
+        return Turned {
+            session,
+            said: few.all(),
+        };
+    }
+    if step.opens {
+        let few = file::opened();
+        return Turned {
+            session: Session::new(f.params, f.given),
+            said: few.all(),
+        };
+    }
+    if change.undecided {
         let a = session.apply(f.call);
         let after = a.session;
         return Turned {
@@ -165,14 +175,9 @@ fn turn_of(session: Session, step: Step, f: Fields) -> Turned
             said: file::said_all(a),
         };
     }
-    if step.opens {
-        return Turned {
-            session: Session::new(f.params, f.given),
-            said: few.all(),
-        };
-    }
+    let few = change.events;
     Turned {
-        session: session.changed(step.change),
+        session: session.changed(change),
         said: few.all(),
     }
 }

@@ -7,10 +7,10 @@ use lib.Seq.{length-take-le}
 use borrow.Author.Needs.{needs}
 use borrow.Author.Tests.{not-true}
 use Rattle.listing.specs.Lines.{maxRecord}
-use Rattle.session_file.specs.Parts.{partsLeft}
 use Rattle.clearing.proofs.Showing.{showing-less, written-within}
 use Rattle.clearing.proofs.show.Statement.{statement}
 use Rattle.clearing.proofs.show.Tie as tie
+use Rattle.session_file.specs.PartSteps.{partsLeft}
 
 abbrev Inv-loop : tie.InvT-loop
 Inv-loop input too-long out₀ s₀ out s = length out ≡ maxRecord

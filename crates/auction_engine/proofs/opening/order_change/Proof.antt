@@ -31,14 +31,18 @@ add-c c =
     let a = d .before .before .before .args in
     omega (arith, order-room (a .s) (a .row) (sym (n .ensures) ∙ d .if1 .left))
 
+one-requires : tie.Need-one-requires
+one-requires c κs = search needs
+
 returns-2 : tie.Need-returns-2
 unfolding withOrder
 returns-2 c =
-    let d = c .before in
+    let l = c .before in
+    let d = l .before in
     let n = d .before .before .order-refusal in
     let a = d .before .before .before .args in
-    order-taken (a .s) (a .row) (n .result) (n .ensures) _ (rw (d .before .unchanged .ensures, c .listed .ensures, d .if1 .left)) (d .if1 .left)
+    order-taken (a .s) (a .row) (n .result) (n .ensures) _ (rw (d .before .unchanged .ensures, l .listed .ensures, c .one .ensures, d .if1 .left)) (d .if1 .left)
 
 pub order-change-spec : {M : Type 1} → statement M
 order-change-spec =
-    tie.close (tie.spec order-refusal-requires unchanged-requires returns listed-requires add-c returns-2)
+    tie.close (tie.spec order-refusal-requires unchanged-requires returns listed-requires add-c one-requires returns-2)
