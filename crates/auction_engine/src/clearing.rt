@@ -61,14 +61,14 @@ impl Session {
             return bad;
         }
         let orders = self.orders;
-        let window = unless(self.in_window(now), book::error::OUTSIDE_WINDOW);
+        let window = unless(self.in_window(now), refusals::OUTSIDE_WINDOW);
         let phase = unless(
             crate::admits(self.phase, crate::CLEAR),
-            book::error::WRONG_PHASE,
+            refusals::WRONG_PHASE,
         );
         let pending = unless(
             all_screened(orders, self.order_count),
-            book::error::SCREENING_PENDING,
+            refusals::SCREENING_PENDING,
         );
         first_of(window, first_of(phase, pending))
     }

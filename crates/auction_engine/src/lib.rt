@@ -193,7 +193,7 @@ impl Session {
     pub(crate) fn no_such_call(self) -> u8
         ensures { λ r. ⌜ r ≡ limitsRefusal self then 4 ⌝ }
     {
-        first_of(self.limits_refusal(), book::error::BAD_FIELD)
+        first_of(self.limits_refusal(), refusals::BAD_FIELD)
     }
 }
 
@@ -205,8 +205,8 @@ pub fn arguments_refusal(call: CallRecord) -> u8
     let id = call.id;
     match kind {
         0 => screening::arguments_refusal(call.side, call.verdict, call.has_id, id),
-        6 => unless(call.reason <= 6, book::error::BAD_FIELD),
-        _ => unless(kind <= EXPIRE, book::error::BAD_FIELD),
+        6 => unless(call.reason <= 6, refusals::BAD_FIELD),
+        _ => unless(kind <= EXPIRE, refusals::BAD_FIELD),
     }
 }
 
@@ -295,17 +295,14 @@ impl Session {
         let g = self.given;
         let orders = unless(
             self.order_count <= Session::MAX_ORDERS,
-            book::error::OVER_LIMIT,
+            refusals::OVER_LIMIT,
         );
-        let fills = unless(
-            self.fill_count <= Session::MAX_FILLS,
-            book::error::OVER_LIMIT,
-        );
-        let band = unless(g.band_bps <= disclosure::MAX_BAND, book::error::OVER_LIMIT);
-        let reserve = unless(!both(p.forced, 0 < g.reserve), book::error::OVER_LIMIT);
+        let fills = unless(self.fill_count <= Session::MAX_FILLS, refusals::OVER_LIMIT);
+        let band = unless(g.band_bps <= disclosure::MAX_BAND, refusals::OVER_LIMIT);
+        let reserve = unless(!both(p.forced, 0 < g.reserve), refusals::OVER_LIMIT);
         let times = unless(
             clock::sum_fits(p.reveal_end, p.rofr_window),
-            book::error::OVER_LIMIT,
+            refusals::OVER_LIMIT,
         );
         first_of(
             orders,
@@ -319,9 +316,9 @@ impl Session {
     {
         let g = self.given;
         let orders = self.orders;
-        let phase = unless(self.phase <= CLEARING, book::error::BAD_FIELD);
-        let policy = unless(g.policy <= 3, book::error::BAD_FIELD);
-        let sides = unless(sides_ok(orders, self.order_count), book::error::BAD_FIELD);
+        let phase = unless(self.phase <= CLEARING, refusals::BAD_FIELD);
+        let policy = unless(g.policy <= 3, refusals::BAD_FIELD);
+        let sides = unless(sides_ok(orders, self.order_count), refusals::BAD_FIELD);
         first_of(phase, first_of(policy, sides))
     }
 

@@ -69,7 +69,7 @@ impl Session {
         let bad = self.checked();
         let phase = crate::unless(
             crate::admits(self.phase, crate::ALLOCATE),
-            book::error::WRONG_PHASE,
+            refusals::WRONG_PHASE,
         );
         crate::first_of(bad, phase)
     }
@@ -93,7 +93,7 @@ impl Session {
                 };
             }
             if Session::MAX_FILLS <= at {
-                return Answer::refused(self, book::error::BOOK_FULL);
+                return Answer::refused(self, refusals::FILLS_FULL);
             }
             let b = next.buy;
             let a = next.sell;

@@ -26,22 +26,13 @@ use book::Row;
 use events::Event;
 use events::Few;
 
-// InvalidSchedule.
-const INVALID_SCHEDULE: u8 = 5;
-// ZeroAmount, in a header or an order.
-const ZERO_AMOUNT: u8 = 6;
-// BookFull: a seventeenth order.
-const BOOK_FULL: u8 = 7;
-// DuplicateOrder: an owner seen.
-const DUPLICATE_ORDER: u8 = 8;
-
 // 4 a field outside its values; 5 an invalid schedule; 6 no cash cap.
 pub fn header_refusal(p: Params, g: Given) -> u8
     ensures { λ r. ⌜ r ≡ headerRefusal p g ⌝ }
 {
-    let reserve = unless(!both(p.forced, 0 < g.reserve), book::error::BAD_FIELD);
-    let policy = unless(g.policy <= 3, book::error::BAD_FIELD);
-    let band = unless(g.band_bps <= disclosure::MAX_BAND, book::error::BAD_FIELD);
+    let reserve = unless(!both(p.forced, 0 < g.reserve), refusals::BAD_FIELD);
+    let policy = unless(g.policy <= 3, refusals::BAD_FIELD);
+    let band = unless(g.band_bps <= disclosure::MAX_BAND, refusals::BAD_FIELD);
     first_of(
         reserve,
         first_of(policy, first_of(band, schedule_refusal(p))),
@@ -61,12 +52,15 @@ fn schedule_refusal(p: Params) -> u8
     let none = book::same_key(authority, [0; 32]);
     let times = unless(
         clock::before(p.reveal_end, p.settle_deadline),
-        INVALID_SCHEDULE,
+        refusals::INVALID_SCHEDULE,
     );
-    let window = unless(clock::not_before(p.rofr_window, 0), INVALID_SCHEDULE);
+    let window = unless(
+        clock::not_before(p.rofr_window, 0),
+        refusals::INVALID_SCHEDULE,
+    );
     let owner = unless(
         either(!none, clock::not_before(0, p.rofr_window)),
-        INVALID_SCHEDULE,
+        refusals::INVALID_SCHEDULE,
     );
     first_of(times, first_of(window, first_of(owner, end_refusal(p))))
 }
@@ -80,12 +74,12 @@ fn end_refusal(p: Params) -> u8
 {
     let fits = unless(
         clock::sum_fits(p.reveal_end, p.rofr_window),
-        INVALID_SCHEDULE,
+        refusals::INVALID_SCHEDULE,
     );
     let end = clock::sum_before(p.reveal_end, p.rofr_window, p.settle_deadline);
-    let below = unless(end, INVALID_SCHEDULE);
-    let reveals = unless(2 <= p.min_reveals, INVALID_SCHEDULE);
-    let cash = unless(0 < p.max_cash, ZERO_AMOUNT);
+    let below = unless(end, refusals::INVALID_SCHEDULE);
+    let reveals = unless(2 <= p.min_reveals, refusals::INVALID_SCHEDULE);
+    let cash = unless(0 < p.max_cash, refusals::ZERO_FIGURE);
     first_of(fits, first_of(below, first_of(reveals, cash)))
 }
 
@@ -93,17 +87,20 @@ fn end_refusal(p: Params) -> u8
 pub fn order_refusal(s: Session, row: Row) -> u8
     ensures { λ r. ⌜ r ≡ orderRefusal s row ⌝ }
 {
-    let side = unless(row.side <= 1, book::error::BAD_FIELD);
-    let escrow = unless(0 < row.escrowed, ZERO_AMOUNT);
-    let figures = unless(shows_right(row), ZERO_AMOUNT);
-    let full = unless(s.order_count < Session::MAX_ORDERS, BOOK_FULL);
+    let side = unless(row.side <= 1, refusals::BAD_FIELD);
+    let escrow = unless(0 < row.escrowed, refusals::ZERO_FIGURE);
+    let figures = unless(shows_right(row), refusals::ZERO_FIGURE);
+    let full = unless(s.order_count < Session::MAX_ORDERS, refusals::ORDERS_FULL);
     let refusal = first_of(side, first_of(escrow, first_of(figures, full)));
     if refusal != 0 {
         return refusal;
     }
     let orders = s.orders;
     let owner = row.owner;
-    unless(!owner_seen(orders, s.order_count, owner), DUPLICATE_ORDER)
+    unless(
+        !owner_seen(orders, s.order_count, owner),
+        refusals::DUPLICATE_ORDER,
+    )
 }
 
 // Revealed with both figures, or unrevealed with none.

@@ -70,12 +70,12 @@ impl Session {
         }
         let phase = unless(
             crate::admits(self.phase, crate::EXERCISE),
-            book::error::WRONG_PHASE,
+            refusals::WRONG_PHASE,
         );
-        let window = unless(self.before_rofr_end(now), book::error::OUTSIDE_WINDOW);
-        let issuers = unless(self.is_authority(issuer), book::error::NOT_ROFR_AUTHORITY);
-        let nothing = unless(0 < qty, book::error::ZERO_AMOUNT);
-        let full = unless(self.fill_count < Session::MAX_FILLS, book::error::BOOK_FULL);
+        let window = unless(self.before_rofr_end(now), refusals::OUTSIDE_WINDOW);
+        let issuers = unless(self.is_authority(issuer), refusals::NOT_ROFR_AUTHORITY);
+        let nothing = unless(0 < qty, refusals::ZERO_PURCHASE);
+        let full = unless(self.fill_count < Session::MAX_FILLS, refusals::FILLS_FULL);
         let no_fill = self.take_refusal(fill as usize, qty);
         first_of(
             phase,
@@ -95,13 +95,13 @@ impl Session {
             then unless (leb qty (fillAt self at .qty)) 22 ⌝ }
     {
         if self.fill_count <= at {
-            return book::error::NO_FILL;
+            return refusals::NO_FILL;
         }
         let fills = self.fills;
         let f = fills[at];
-        let bought = unless(!f.rofr, book::error::NO_FILL);
-        let settled = unless(!f.settled, book::error::NO_FILL);
-        let above = unless(qty <= f.qty, book::error::ROFR_EXCEEDS_FILL);
+        let bought = unless(!f.rofr, refusals::NO_FILL);
+        let settled = unless(!f.settled, refusals::NO_FILL);
+        let above = unless(qty <= f.qty, refusals::ROFR_EXCEEDS_FILL);
         first_of(bought, first_of(settled, above))
     }
 
@@ -178,11 +178,11 @@ impl Session {
         }
         let phase = unless(
             crate::admits(self.phase, crate::CLOSE),
-            book::error::WRONG_PHASE,
+            refusals::WRONG_PHASE,
         );
         let ended = !self.before_rofr_end(now);
         let allowed = crate::either(self.is_authority(caller), ended);
-        first_of(phase, unless(allowed, book::error::NOT_ROFR_AUTHORITY))
+        first_of(phase, unless(allowed, refusals::NOT_ROFR_AUTHORITY))
     }
 }
 

@@ -88,10 +88,10 @@ impl Session {
     fn screening_refusal(self, now: i64) -> u8
         ensures { λ r. ⌜ r ≡ unless (inWindow self now) 11 then unless (admits (self .phase) screenKind) 10 ⌝ }
     {
-        let window = unless(self.in_window(now), book::error::OUTSIDE_WINDOW);
+        let window = unless(self.in_window(now), refusals::OUTSIDE_WINDOW);
         let phase = unless(
             crate::admits(self.phase, crate::SCREEN),
-            book::error::WRONG_PHASE,
+            refusals::WRONG_PHASE,
         );
         first_of(window, phase)
     }
@@ -105,11 +105,11 @@ impl Session {
             then unless (not (orderAt self i .screened)) 15 ⌝ }
     {
         if self.order_count <= i {
-            return book::error::NO_ORDER;
+            return refusals::NO_ORDER;
         }
-        let other = unless(o.side == side, book::error::WRONG_SIDE);
-        let hidden = unless(o.revealed, book::error::NOT_REVEALED);
-        let again = unless(!o.screened, book::error::ALREADY_SCREENED);
+        let other = unless(o.side == side, refusals::WRONG_SIDE);
+        let hidden = unless(o.revealed, refusals::NOT_REVEALED);
+        let again = unless(!o.screened, refusals::ALREADY_SCREENED);
         first_of(other, first_of(hidden, again))
     }
 
@@ -142,14 +142,14 @@ pub fn arguments_refusal(side: u8, verdict: u8, has_id: bool, id: [u8; 16]) -> u
         then unless («has_id» || same id noInvestor) 4
         then unless («has_id» || not (eqb side 0 && eqb verdict 0)) 4 ⌝ }
 {
-    let sides = unless(side <= 1, book::error::BAD_FIELD);
-    let verdicts = unless(verdict <= 6, book::error::BAD_FIELD);
+    let sides = unless(side <= 1, refusals::BAD_FIELD);
+    let verdicts = unless(verdict <= 6, refusals::BAD_FIELD);
     let zeros = unless(
         crate::either(has_id, book::same_id(id, [0; 16])),
-        book::error::BAD_FIELD,
+        refusals::BAD_FIELD,
     );
     let passed_buy = crate::both(side == 0, verdict == 0);
-    let given = unless(crate::either(has_id, !passed_buy), book::error::BAD_FIELD);
+    let given = unless(crate::either(has_id, !passed_buy), refusals::BAD_FIELD);
     first_of(sides, first_of(verdicts, first_of(zeros, given)))
 }
 

@@ -46,7 +46,7 @@ impl Session {
     {
         let phase = unless(
             crate::admits(self.phase, crate::SETTLE),
-            book::error::WRONG_PHASE,
+            refusals::WRONG_PHASE,
         );
         let early = first_of(self.checked(), phase);
         if early != 0 {
@@ -80,9 +80,9 @@ impl Session {
         ensures { λ r. ⌜ r ≡ unless (ltb at (self .«fill_count»)) 21 then unless (not (fillAt self at .settled)) 23 ⌝ }
     {
         if self.fill_count <= at {
-            return book::error::NO_FILL;
+            return refusals::NO_FILL;
         }
-        unless(!f.settled, book::error::FILL_SETTLED)
+        unless(!f.settled, refusals::FILL_SETTLED)
     }
 
     // A fill at a place, settled.
@@ -108,10 +108,10 @@ impl Session {
     pub(crate) fn skip_change(self, now: i64, fill: u32, reason: u8) -> Change
         ensures { λ r. ⌜ r ≡ changeOf self (call.skip now fill reason) ⌝ }
     {
-        let argument = unless(reason <= 6, book::error::BAD_FIELD);
+        let argument = unless(reason <= 6, refusals::BAD_FIELD);
         let phase = unless(
             crate::admits(self.phase, crate::SKIP),
-            book::error::WRONG_PHASE,
+            refusals::WRONG_PHASE,
         );
         let early = first_of(self.checked(), first_of(argument, phase));
         if early != 0 {
@@ -119,7 +119,7 @@ impl Session {
         }
         let at = fill as usize;
         let f = self.fill_at(at);
-        let passes = unless(0 < reason, book::error::FILL_SETTLEABLE);
+        let passes = unless(0 < reason, refusals::FILL_SETTLEABLE);
         let refusal = first_of(self.fill_refusal(at, f), passes);
         if refusal != 0 {
             return self.unchanged(refusal);
@@ -162,19 +162,16 @@ impl Session {
     {
         let phase = unless(
             crate::admits(self.phase, crate::FINISH),
-            book::error::WRONG_PHASE,
+            refusals::WRONG_PHASE,
         );
         let early = first_of(self.checked(), phase);
         if early != 0 {
             return early;
         }
         let fills = self.fills;
-        let pending = unless(
-            all_settled(fills, self.fill_count),
-            book::error::FILLS_PENDING,
-        );
+        let pending = unless(all_settled(fills, self.fill_count), refusals::FILLS_PENDING);
         let volume = moved_volume(fills, self.fill_count, self.skipped_fills);
-        let unfit = unless(wide::fits_word(volume), book::error::MATH_OVERFLOW);
+        let unfit = unless(wide::fits_word(volume), refusals::MATH_OVERFLOW);
         first_of(pending, unfit)
     }
 
@@ -240,11 +237,11 @@ impl Session {
         let p = self.params;
         let phase = unless(
             crate::admits(self.phase, crate::EXPIRE),
-            book::error::WRONG_PHASE,
+            refusals::WRONG_PHASE,
         );
         let window = unless(
             clock::not_before(now, p.settle_deadline),
-            book::error::OUTSIDE_WINDOW,
+            refusals::OUTSIDE_WINDOW,
         );
         first_of(phase, window)
     }

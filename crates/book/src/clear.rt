@@ -162,7 +162,7 @@ fn priced(live: Live, price: u64, executed: Wide) -> Outcome
             lots,
         };
     }
-    no_lots(crate::error::MATH_OVERFLOW, 0)
+    no_lots(refusals::MATH_OVERFLOW, 0)
 }
 
 // Each order's lot by its number: first the buyers', then the sellers'.

@@ -6,7 +6,6 @@ ghost use Rattle.book.specs.Book.{isLive, isBuy, listed, emptyOrder, emp
 use credit_math::MAX_ORDERS;
 
 pub mod clear;
-pub mod error;
 
 // The most fills of a session.
 pub const MAX_FILLS: usize = 24;

@@ -37,13 +37,13 @@ pub fn find_uniform_clear_price(
     ensures { λ r. ⌜ found r ≡ findUniformClearPrice (now («is_buy» .entry)) (now (limits .entry)) (now (qtys .entry)) reserve reference ⌝ }
 {
     if crate::MAX_ORDERS < is_buy.len() {
-        return Clearing::Refused(crate::error::BAD_LENGTH);
+        return Clearing::Refused(refusals::BAD_LENGTH);
     }
     if limits.len() != is_buy.len() {
-        return Clearing::Refused(crate::error::BAD_LENGTH);
+        return Clearing::Refused(refusals::BAD_LENGTH);
     }
     if qtys.len() != is_buy.len() {
-        return Clearing::Refused(crate::error::BAD_LENGTH);
+        return Clearing::Refused(refusals::BAD_LENGTH);
     }
     let kept = search(is_buy, limits, qtys, reserve, reference);
     match kept {
@@ -225,20 +225,20 @@ pub fn allocate_pro_rata(total: u64, ids: &[u64], qtys: &[u64], out: &mut [u64])
         × (now (out .exit) ≡ allocateProRata (now (ids .entry)) (now (qtys .entry)) total (now (out .entry))) ⌝ }
 {
     if crate::MAX_ORDERS < qtys.len() {
-        return crate::error::BAD_LENGTH;
+        return refusals::BAD_LENGTH;
     }
     if ids.len() != qtys.len() {
-        return crate::error::BAD_LENGTH;
+        return refusals::BAD_LENGTH;
     }
     if out.len() != qtys.len() {
-        return crate::error::BAD_LENGTH;
+        return refusals::BAD_LENGTH;
     }
     let sum_qty = sum_of(qtys);
     if wide::less(sum_qty, wide::of_word(total)) {
         if wide::is_zero(sum_qty) {
-            return crate::error::INVALID_INPUT;
+            return refusals::INVALID_INPUT;
         }
-        return crate::error::OVER_ALLOCATION;
+        return refusals::OVER_ALLOCATION;
     }
     write_lots(total, sum_qty, ids, qtys, out);
     0

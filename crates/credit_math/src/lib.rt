@@ -4,7 +4,6 @@ use wide::Division;
 use wide::Wide;
 
 pub mod allocation;
-pub mod error;
 
 // The most orders of a book: the limit of every list here.
 pub const MAX_ORDERS: usize = 16;

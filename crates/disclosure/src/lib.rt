@@ -23,7 +23,7 @@ pub fn band(price: u64, band_bps: u64) -> Banded
 {
     if MAX_BAND < band_bps {
         return Banded {
-            refusal: book::error::OVER_LIMIT,
+            refusal: refusals::OVER_LIMIT,
             price: 0,
         };
     }
@@ -62,10 +62,10 @@ pub fn disclose(policy: u8, band_bps: u64, price: u64, volume: u64) -> Disclosed
     ensures { λ r. ⌜ r ≡ discloseAnswer policy «band_bps» price volume ⌝ }
 {
     if MAX_BAND < band_bps {
-        return withheld(book::error::OVER_LIMIT);
+        return withheld(refusals::OVER_LIMIT);
     }
     if 3 < policy {
-        return withheld(book::error::BAD_FIELD);
+        return withheld(refusals::BAD_FIELD);
     }
     shown_of(policy, band_bps, price, volume)
 }

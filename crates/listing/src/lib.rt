@@ -33,9 +33,6 @@ const MAX_LINE: usize = MAX_DIGITS + 1 + MAX_LETTERS + MAX_FIGURES * (1 + MAX_DI
 // Room for any record's lines, and for the last line.
 pub const ROOM: usize = MAX_EVENTS * MAX_LINE;
 
-// Line writer: lines longer than their part.
-const TOO_LONG: u8 = 27;
-
 // What a writer answers: 0 and the length that it wrote, or 27.
 pub struct Written {
     pub refusal: u8,
@@ -109,7 +106,7 @@ fn answer_for(len: usize, room: usize) -> Written
 {
     if room < len {
         return Written {
-            refusal: TOO_LONG,
+            refusal: refusals::OUTPUT_TOO_SMALL,
             len: 0,
         };
     }

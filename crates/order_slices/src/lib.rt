@@ -13,7 +13,6 @@ ghost use Rattle.order_slices.specs.Entries.{noEntries, orderAt, bidAt, 
 use credit_math::MAX_ORDERS;
 use credit_math::allocation;
 use credit_math::allocation::Clearing;
-use credit_math::error;
 
 // The source's order, at 64 bits.
 #[repr(C)]
@@ -129,7 +128,7 @@ fn search(copy: Entries, n: usize, reserve: u64, reference: u64) -> Figures
     ensures { λ r. ⌜ r ≡ figuresOf (searchEntries copy n reserve reference) ⌝ }
 {
     if MAX_ORDERS < n {
-        return no_price(error::BAD_LENGTH);
+        return no_price(refusals::BAD_LENGTH);
     }
     let is_buy = copy.is_buy;
     let limits = copy.limits;
@@ -164,7 +163,7 @@ fn allot(total: u64, copy: Entries, n: usize, out: &mut [u64]) -> u8
         × (now (out .exit) ≡ allocateEntries copy n total (now (out .entry))) ⌝ }
 {
     if MAX_ORDERS < n {
-        return error::BAD_LENGTH;
+        return refusals::BAD_LENGTH;
     }
     let ids = copy.ids;
     let qtys = copy.qtys;

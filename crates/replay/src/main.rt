@@ -70,7 +70,7 @@ fn compare(file: &[u8]) -> u8 {
 fn is_listing(file: &[u8], want: &[u8]) -> bool {
     let mut out = [0u8; LISTING];
     let written = session_file::list_file(file, &mut out);
-    if written.refusal == session_file::INPUT_TOO_LONG {
+    if written.refusal == refusals::INPUT_TOO_LONG {
         return same(b"0 refused 26\nend none\n", 22, want);
     }
     if written.refusal != 0 {

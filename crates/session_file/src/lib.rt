@@ -23,9 +23,6 @@ mod records;
 // The longest file.
 pub const MAX_INPUT: usize = 65536;
 
-// 26: the input is above that.
-pub const INPUT_TOO_LONG: u8 = 26;
-
 // The listing of a file at the start of the output, and its length; or 26 or 27, and the whole output zeroed.
 pub fn list_file(input: &[u8], out: &mut [u8]) -> Written
     ensures { λ r. ⌜ Listed (now (input .entry)) r (now (out .entry)) (now (out .exit)) ⌝ }
@@ -33,7 +30,7 @@ pub fn list_file(input: &[u8], out: &mut [u8]) -> Written
     if MAX_INPUT < input.len() {
         zero(out);
         return Written {
-            refusal: INPUT_TOO_LONG,
+            refusal: refusals::INPUT_TOO_LONG,
             len: 0,
         };
     }

@@ -108,7 +108,7 @@ fn whole_refused(s: Standing, end: usize) -> Next
     ensures { λ r. ⌜ r ≡ wholeRefused s end ⌝ }
 {
     let none = Events::none();
-    let said = none.push(Event::Refused(crate::INPUT_TOO_LONG));
+    let said = none.push(Event::Refused(refusals::INPUT_TOO_LONG));
     let mut standing = s;
     let place = Place {
         at: end,

@@ -118,12 +118,6 @@ pub struct Head {
     pub width: usize,
 }
 
-const NO_RECORD: u8 = 1;
-
-const UNKNOWN_MARK: u8 = 2;
-
-const OUT_OF_ORDER: u8 = 3;
-
 // The head of what is left of a file: 1 no whole mark; 2 unknown; 3 out of order; 1 cut; 4 a flag outside its values.
 pub fn head_of(rest: &[u8], before: u8) -> Head
     ensures { λ r. ⌜ r ≡ headAt before (now (rest .entry)) ⌝ }
@@ -131,10 +125,10 @@ pub fn head_of(rest: &[u8], before: u8) -> Head
     let mark = mark_of(bytes::u16_at(rest, 0));
     let s = shape_of(mark);
     let width = s.width;
-    let whole = unless(2 <= rest.len(), NO_RECORD);
-    let known = unless(0 < s.kind, UNKNOWN_MARK);
-    let place = unless(in_place(before, s.kind), OUT_OF_ORDER);
-    let body = unless(width <= rest.len(), NO_RECORD);
+    let whole = unless(2 <= rest.len(), refusals::NO_RECORD);
+    let known = unless(0 < s.kind, refusals::UNKNOWN_MARK);
+    let place = unless(in_place(before, s.kind), refusals::OUT_OF_ORDER);
+    let body = unless(width <= rest.len(), refusals::NO_RECORD);
     let flags = flags_refusal(own_bytes(rest, width), s);
     let refusal = first_of(
         whole,
@@ -186,5 +180,5 @@ fn flags_refusal(rec: &[u8], s: Shape) -> u8
 fn flag_refusal(rec: &[u8], at: usize) -> u8
     ensures { λ r. ⌜ r ≡ unless (leb (word 1 (now (rec .entry)) at) 1) 4 ⌝ }
 {
-    unless(bytes::u8_at(rec, at) <= 1, book::error::BAD_FIELD)
+    unless(bytes::u8_at(rec, at) <= 1, refusals::BAD_FIELD)
 }

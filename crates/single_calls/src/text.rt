@@ -8,7 +8,6 @@ ghost use Rattle.events.specs.Events.{maxEvents};
 use auction_engine::Session;
 use book::Fill;
 use book::Order;
-use book::error;
 use events::Event;
 use events::Events;
 use events::Print;
@@ -52,10 +51,10 @@ fn hex(byte: u8) {
 pub fn is_shown(refusal: u8) -> bool
     ensures { λ r. ⌜ r ≡ not (eqb refusal 9 || eqb refusal 4) ⌝ }
 {
-    if refusal == error::OVER_LIMIT {
+    if refusal == refusals::OVER_LIMIT {
         return false;
     }
-    refusal != error::BAD_FIELD
+    refusal != refusals::BAD_FIELD
 }
 
 // The events of an accepted call, or `none`.
