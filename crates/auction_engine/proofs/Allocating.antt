@@ -8,7 +8,7 @@ use native.Mathlib.Omega.{arith}
 use lib.IntN.{ℤ}
 use borrow.Author.Tests.{not-true}
 use Rattle.laws.specs.Checks.{unless, _then_}
-use Rattle.laws.proofs.Checks.{then-zero, then-stop, then-pass, then-assoc, unless-zero}
+use Rattle.laws.proofs.Checking.{then-zero, then-stop, then-pass, then-assoc, unless-zero}
 use Rattle.credit_math.specs.Limits.{maxOrders}
 use Rattle.book.specs.Limits.{maxFills}
 use Rattle.events.specs.declared.Events.{Events}

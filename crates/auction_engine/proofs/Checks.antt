@@ -7,7 +7,7 @@ use lib.Dec.{leb, ltb, eqb}
 use borrow.Author.Tests.{leb-true}
 use Rattle.laws.specs.Search.{every}
 use Rattle.laws.specs.Checks.{unless, _then_}
-use Rattle.laws.proofs.Checks.{then-zero, then-stop, then-pass, then-assoc, unless-zero, check-zero}
+use Rattle.laws.proofs.Checking.{then-zero, then-stop, then-pass, then-assoc, unless-zero, check-zero}
 use Rattle.clock.specs.Clock.{sumFits}
 use Rattle.credit_math.specs.Limits.{maxOrders}
 use Rattle.book.specs.Limits.{maxFills}

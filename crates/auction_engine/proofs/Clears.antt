@@ -4,7 +4,7 @@ use mathlib.Core.Path.{_≡_, refl, sym, _∙_, ap}
 use Prim.Native.Nat.{ℕ}
 use lib.IntN.{ℤ}
 use Rattle.laws.specs.Checks.{_then_}
-use Rattle.laws.proofs.Checks.{then-zero, then-stop, then-pass, then-assoc}
+use Rattle.laws.proofs.Checking.{then-zero, then-stop, then-pass, then-assoc}
 use Rattle.book.specs.declared.clear.Outcome.{Outcome}
 use Rattle.auction_engine.specs.declared.Session.{Session}
 use Rattle.auction_engine.specs.Call.{clear, limitsRefusal, fieldsRefusal, argumentsRefusal}

@@ -13,7 +13,7 @@ use Rattle.laws.specs.Search.{some}
 use Rattle.laws.specs.Lists.{same}
 use Rattle.laws.specs.Checks.{unless, _then_}
 use Rattle.laws.proofs.Tests.{tested}
-use Rattle.laws.proofs.Checks.{then-zero, then-stop, then-pass, then-assoc, unless-zero}
+use Rattle.laws.proofs.Checking.{then-zero, then-stop, then-pass, then-assoc, unless-zero}
 use Rattle.credit_math.specs.Limits.{maxOrders}
 use Rattle.book.specs.Limits.{maxFills}
 use Rattle.book.specs.Book.{noFill, listed}

@@ -6,7 +6,7 @@ use Prim.Native.Nat.{ℕ, _<_}
 use native.Mathlib.Omega.{arith}
 use lib.IntN.{ℤ}
 use borrow.Author.Tests.{ltb-true, lt-ltb}
-use Rattle.laws.proofs.Checks.{check-zero}
+use Rattle.laws.proofs.Checking.{check-zero}
 use Rattle.credit_math.specs.Limits.{maxOrders}
 use Rattle.book.specs.Limits.{maxFills}
 use Rattle.auction_engine.specs.declared.Session.{Session}

@@ -5,7 +5,7 @@ use Prim.Native.Nat.{ℕ, _*_, _^_, _<_, _≤_}
 use lib.Dec.{eqb, lit≤}
 use lib.IntN.{ℤ}
 use borrow.Author.Tests.{ltb-true, le-leb}
-use Rattle.laws.proofs.Checks.{check-zero, unless-zero}
+use Rattle.laws.proofs.Checking.{check-zero, unless-zero}
 use Rattle.wide.specs.Value.{value, modulus}
 use Rattle.wide.specs.declared.Wide.{Wide}
 use Rattle.wide.proofs.Words.{word-low}

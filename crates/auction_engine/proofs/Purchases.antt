@@ -6,7 +6,7 @@ use Prim.Native.Nat.{ℕ, _+_, _-_, _^_, _<_, _≤_, min}
 use borrow.Author.Tests.{leb-true, ltb-true}
 use lib.IntN.{ℤ}
 use lib.ListN.{set}
-use Rattle.laws.proofs.Checks.{check-zero, unless-zero}
+use Rattle.laws.proofs.Checking.{check-zero, unless-zero}
 use Rattle.book.specs.Limits.{maxFills}
 use Rattle.auction_engine.specs.declared.Session.{Session}
 use Rattle.auction_engine.specs.Session.{fillAt, remake}

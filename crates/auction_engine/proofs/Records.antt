@@ -6,7 +6,7 @@ use Prim.Native.Nat.{ℕ, _<_}
 use lib.Dec.{eqb, leb}
 use borrow.Author.Tests.{ne-eqb, lt-leb}
 use Rattle.laws.specs.Checks.{unless, _then_}
-use Rattle.laws.proofs.Checks.{then-pass, then-nothing}
+use Rattle.laws.proofs.Checking.{then-pass, then-nothing}
 use Rattle.auction_engine.specs.declared.Session.{Session}
 use Rattle.auction_engine.specs.declared.Answer.{Answer}
 use Rattle.auction_engine.specs.declared.CallRecord.{CallRecord}

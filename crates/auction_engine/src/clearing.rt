@@ -16,12 +16,13 @@ use crate::Answer;
 use crate::Cleared;
 use crate::Session;
 use crate::changes::Change;
-use crate::first_of;
-use crate::unless;
 use book::Order;
 use book::clear::Outcome;
 use events::Event;
 use events::Events;
+use laws::checks::both;
+use laws::checks::first_of;
+use laws::checks::unless;
 
 impl Session {
     // Clears the live orders.
@@ -46,7 +47,7 @@ impl Session {
     pub(crate) fn clear_change(self, now: i64) -> Change
         ensures { λ r. ⌜ r ≡ changeOf self (call.clear now) ⌝ }
     {
-        if crate::both(self.in_window(now), crate::admits(self.phase, crate::CLEAR)) {
+        if both(self.in_window(now), crate::admits(self.phase, crate::CLEAR)) {
             return self.early(0);
         }
         self.early(self.clear_refusal(now))

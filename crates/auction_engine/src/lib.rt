@@ -1,11 +1,11 @@
 // The auction engine from the reveal on: a session, and the nine calls on it.
 ghost use mathlib.Core.Path.{_≡_};
-ghost use mathlib.Core.Bool.{true, false, not, _&&_, _||_};
+ghost use mathlib.Core.Bool.{true, false, not, _||_};
 ghost use mathlib.Core.List.{[]};
 ghost use Prim.Native.Nat.{_+_, _<_, _≤_};
 ghost use lib.Dec.{leb, eqb};
 ghost use Rattle.laws.specs.Search.{every};
-ghost use Rattle.laws.specs.Checks.{unless, _then_};
+ghost use Rattle.laws.specs.Checks.{_then_};
 ghost use Rattle.credit_math.specs.Limits.{maxOrders};
 ghost use Rattle.book.specs.Book.{orderIn};
 ghost use Rattle.auction_engine.specs.Session.{fresh};
@@ -16,6 +16,9 @@ use book::Given;
 use book::Order;
 use book::Params;
 use events::Events;
+use laws::checks::both;
+use laws::checks::first_of;
+use laws::checks::unless;
 
 pub mod changes;
 pub mod clearing;
@@ -347,30 +350,4 @@ fn sides_ok(orders: [Order; Session::MAX_ORDERS], n: usize) -> bool
         i += 1;
     }
     true
-}
-
-// One check: 0 where the test holds, else the number.
-pub fn unless(test: bool, number: u8) -> u8
-    ensures { λ r. ⌜ r ≡ unless test number ⌝ }
-{
-    if test { 0 } else { number }
-}
-
-// The first of two checks that fails.
-pub fn first_of(m: u8, n: u8) -> u8
-    ensures { λ r. ⌜ r ≡ m then n ⌝ }
-{
-    if m == 0 { n } else { m }
-}
-
-pub fn both(a: bool, b: bool) -> bool
-    ensures { λ r. ⌜ r ≡ (a && b) ⌝ }
-{
-    if a { b } else { false }
-}
-
-pub fn either(a: bool, b: bool) -> bool
-    ensures { λ r. ⌜ r ≡ (a || b) ⌝ }
-{
-    if a { true } else { b }
 }

@@ -23,6 +23,9 @@ use book::Order;
 use events::Event;
 use events::Events;
 use events::Line;
+use laws::checks::both;
+use laws::checks::first_of;
+use laws::checks::unless;
 
 impl Session {
     // At most `max_fills` fills more; the phase moves on once every lot is paired. The clock is not read.
@@ -67,11 +70,11 @@ impl Session {
         ensures { λ r. ⌜ r ≡ allocateChecks self ⌝ }
     {
         let bad = self.checked();
-        let phase = crate::unless(
+        let phase = unless(
             crate::admits(self.phase, crate::ALLOCATE),
             refusals::WRONG_PHASE,
         );
-        crate::first_of(bad, phase)
+        first_of(bad, phase)
     }
 
     // At most n fills, each written in place: a session is too large to copy for each. 18 where one more is due and no place free.
@@ -150,7 +153,7 @@ fn next_pair(orders: [Order; Session::MAX_ORDERS], n: usize) -> Pair
         sell = first_due(sell, is_due(o, 1), i);
         i += 1;
     }
-    let due = crate::both(buy < n, sell < n);
+    let due = both(buy < n, sell < n);
     Pair { due, buy, sell }
 }
 
@@ -171,7 +174,7 @@ fn first_due(found: usize, due: bool, i: usize) -> usize
 fn is_due(o: Order, side: u8) -> bool
     ensures { λ r. ⌜ r ≡ dueOn side o ⌝ }
 {
-    crate::both(o.side == side, 0 < o.alloc_left)
+    both(o.side == side, 0 < o.alloc_left)
 }
 
 fn smaller(a: u64, b: u64) -> u64

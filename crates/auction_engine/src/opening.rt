@@ -14,17 +14,17 @@ ghost use Rattle.book.specs.Book.{orderIn, noWallet};
 ghost use Rattle.auction_engine.specs.Opening.{headerRefusal, orderRefusal};
 ghost use Rattle.auction_engine.specs.Changes.{orderChange};
 use crate::Session;
-use crate::both;
 use crate::changes::Change;
-use crate::either;
-use crate::first_of;
-use crate::unless;
 use book::Given;
 use book::Order;
 use book::Params;
 use book::Row;
 use events::Event;
 use events::Few;
+use laws::checks::both;
+use laws::checks::either;
+use laws::checks::first_of;
+use laws::checks::unless;
 
 // 4 a field outside its values; 5 an invalid schedule; 6 no cash cap.
 pub fn header_refusal(p: Params, g: Given) -> u8

@@ -15,12 +15,14 @@ ghost use Rattle.auction_engine.specs.Changes.{changeOf};
 use crate::Answer;
 use crate::Session;
 use crate::changes::Change;
-use crate::first_of;
-use crate::unless;
 use book::Fill;
 use events::Event;
 use events::Events;
 use events::Few;
+use laws::checks::both;
+use laws::checks::either;
+use laws::checks::first_of;
+use laws::checks::unless;
 
 impl Session {
     // The issuer takes `qty` of a fill at the clearing price, settled at once.
@@ -52,7 +54,7 @@ impl Session {
     pub(crate) fn exercise_change(self, now: i64, issuer: [u8; 32], fill: u32, qty: u64) -> Change
         ensures { λ r. ⌜ r ≡ changeOf self (call.exercise now issuer fill qty) ⌝ }
     {
-        if crate::both(
+        if both(
             crate::admits(self.phase, crate::EXERCISE),
             self.before_rofr_end(now),
         ) {
@@ -181,7 +183,7 @@ impl Session {
             refusals::WRONG_PHASE,
         );
         let ended = !self.before_rofr_end(now);
-        let allowed = crate::either(self.is_authority(caller), ended);
+        let allowed = either(self.is_authority(caller), ended);
         first_of(phase, unless(allowed, refusals::NOT_ROFR_AUTHORITY))
     }
 }

@@ -17,11 +17,13 @@ ghost use Rattle.auction_engine.specs.Call.{screenKind, admits, inWindow
 use crate::Answer;
 use crate::Session;
 use crate::changes::Change;
-use crate::first_of;
-use crate::unless;
 use book::Order;
 use events::Event;
 use events::Few;
+use laws::checks::both;
+use laws::checks::either;
+use laws::checks::first_of;
+use laws::checks::unless;
 
 impl Session {
     // An order's gate verdict, and the id of its investor where one is given.
@@ -145,11 +147,11 @@ pub fn arguments_refusal(side: u8, verdict: u8, has_id: bool, id: [u8; 16]) -> u
     let sides = unless(side <= 1, refusals::BAD_FIELD);
     let verdicts = unless(verdict <= 6, refusals::BAD_FIELD);
     let zeros = unless(
-        crate::either(has_id, book::same_id(id, [0; 16])),
+        either(has_id, book::same_id(id, [0; 16])),
         refusals::BAD_FIELD,
     );
-    let passed_buy = crate::both(side == 0, verdict == 0);
-    let given = unless(crate::either(has_id, !passed_buy), refusals::BAD_FIELD);
+    let passed_buy = both(side == 0, verdict == 0);
+    let given = unless(either(has_id, !passed_buy), refusals::BAD_FIELD);
     first_of(sides, first_of(verdicts, first_of(zeros, given)))
 }
 

@@ -22,12 +22,12 @@ ghost use Rattle.auction_engine.specs.Changes.{placeOf, writing, changeO
 use crate::Answer;
 use crate::Session;
 use crate::changes::Change;
-use crate::first_of;
-use crate::unless;
 use book::Fill;
 use events::Event;
 use events::Few;
 use events::Print;
+use laws::checks::first_of;
+use laws::checks::unless;
 use wide::Wide;
 
 const DEADLINE: u8 = 4;

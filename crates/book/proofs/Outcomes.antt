@@ -1,12 +1,13 @@
 -- The search over the live orders, and the cases of a clear as the code comes to them. Assumes nothing.
 use mathlib.Core.Path.{_≡_, sym, _∙_, ap, subst}
-use mathlib.Core.Bool.{Bool, true, false, not, _&&_}
+use mathlib.Core.Bool.{Bool, true, false, not, _&&_, _||_}
 use mathlib.Core.List.{List}
 use Prim.Native.Nat.{ℕ, _^_, _≤_, _<_}
 use native.Mathlib.Omega.{arith}
 use lib.Dec.{ltb}
 use lib.ListN.{length, take, replicate, length-map}
 use borrow.Author.Tests.{lt-ltb, le-ltb, ltb-true, not-true, not-false}
+use Rattle.laws.proofs.Tests.{either-not}
 use Rattle.wide.specs.Value.{value}
 use Rattle.wide.specs.declared.Wide.{Wide}
 use Rattle.wide.proofs.Words.{word-low}
@@ -89,11 +90,11 @@ module _ (p : Params) (g : Given) (orders : List Order) (n live : ℕ) (counted 
   unfolding computeClear
   too-few h e = rw (← counted, lt-ltb live (p .«min_reveals») h, e)
 
-  module _ (h : p .«min_reveals» ≤ live) (mark : Bool) (marked : mark ≡ not (not (p .forced) && not (g .mark))) where
+  module _ (h : p .«min_reveals» ≤ live) (mark : Bool) (marked : mark ≡ (p .forced || g .mark)) where
     pub no-mark : mark ≡ false → o ≡ failedBy markUnavailable → o ≡ computeClear p g orders n
     unfolding computeClear
-    no-mark t e = rw (← counted, le-ltb live (p .«min_reveals») h, not-false (not (p .forced) && not (g .mark)) (sym marked ∙ t), e)
+    no-mark t e = rw (← counted, le-ltb live (p .«min_reveals») h, not-false (not (p .forced) && not (g .mark)) (sym (marked ∙ either-not (p .forced) (g .mark)) ∙ t), e)
 
     pub cleared : (floor : ℕ) → mark ≡ true → floor ≡ floorOf p g → o ≡ allotted orders n (searched orders n floor (g .reference)) → o ≡ computeClear p g orders n
     unfolding computeClear
-    cleared floor t f e = rw (← counted, le-ltb live (p .«min_reveals») h, not-true (not (p .forced) && not (g .mark)) (sym marked ∙ t), e, f)
+    cleared floor t f e = rw (← counted, le-ltb live (p .«min_reveals») h, not-true (not (p .forced) && not (g .mark)) (sym (marked ∙ either-not (p .forced) (g .mark)) ∙ t), e, f)

@@ -13,6 +13,7 @@ use crate::Order;
 use crate::Params;
 use credit_math::MAX_ORDERS;
 use credit_math::allocation::Clearing;
+use laws::checks::either;
 use wide::Wide;
 
 // TooFewReveals 1, NoCross 2, MarkUnavailable 3.
@@ -41,7 +42,7 @@ pub fn compute_clear(p: Params, g: Given, orders: [Order; MAX_ORDERS], n: usize)
     if count < least {
         return no_lots(0, TOO_FEW_REVEALS);
     }
-    if has_mark(p.forced, g.mark) {
+    if either(p.forced, g.mark) {
         return outcome_of(live, floor_of(p, g), g.reference);
     }
     no_lots(0, MARK_UNAVAILABLE)
@@ -52,12 +53,6 @@ pub fn floor_of(p: Params, g: Given) -> u64
     ensures { λ r. ⌜ r ≡ floorOf p g ⌝ }
 {
     if p.forced { 0 } else { g.reserve }
-}
-
-fn has_mark(forced: bool, mark: bool) -> bool
-    ensures { λ r. ⌜ r ≡ not (not forced && not mark) ⌝ }
-{
-    if forced { true } else { mark }
 }
 
 fn no_lots(refusal: u8, failed: u8) -> Outcome

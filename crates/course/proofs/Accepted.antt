@@ -6,7 +6,7 @@ use Prim.Native.Nat.{ℕ, _≤_, _<_}
 use borrow.Author.Tests.{ltb-true, leb-true, eqb-true, not-true}
 use lib.IntN.{ℤ}
 use Rattle.laws.proofs.Lists.{same-true}
-use Rattle.laws.proofs.Checks.{then-zero, check-zero, unless-zero}
+use Rattle.laws.proofs.Checking.{then-zero, check-zero, unless-zero}
 use Rattle.book.specs.Limits.{maxFills}
 use Rattle.auction_engine.specs.declared.Session.{Session}
 use Rattle.auction_engine.specs.Session.{fillAt, allocating, issuerRofr, settling}

@@ -5,7 +5,7 @@ use native.Mathlib.Omega.{arith}
 use borrow.Author.Tests.{leb-true, le-leb}
 use lib.Dec.{leb}
 use Rattle.laws.proofs.Search.{every-all, every-at}
-use Rattle.laws.proofs.Checks.{check-zero, unless-zero, check-pass, unless-pass}
+use Rattle.laws.proofs.Checking.{check-zero, unless-zero, check-pass, unless-pass}
 use Rattle.clock.specs.Clock.{sumFits}
 use Rattle.credit_math.specs.Limits.{maxOrders}
 use Rattle.book.specs.Limits.{maxFills}

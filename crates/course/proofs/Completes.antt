@@ -11,7 +11,7 @@ use lib.Dec.{eqb}
 use lib.IntN.{ℤ}
 use Rattle.laws.specs.Lists.{same}
 use Rattle.laws.proofs.Tests.{neither}
-use Rattle.laws.proofs.Checks.{then-both, check-pass, unless-pass}
+use Rattle.laws.proofs.Checking.{then-both, check-pass, unless-pass}
 use Rattle.book.specs.Book.{noWallet}
 use Rattle.auction_engine.specs.declared.Session.{Session}
 use Rattle.auction_engine.specs.Session.{allocating, issuerRofr, settling}

@@ -12,7 +12,7 @@ use lib.ListN.{length, List·getD-eq-default}
 use Rattle.laws.specs.Sums.{only}
 use Rattle.laws.proofs.Tests.{tested, both, lt-or-le}
 use Rattle.laws.proofs.Sums.{sum-same}
-use Rattle.laws.proofs.Checks.{then-zero}
+use Rattle.laws.proofs.Checking.{then-zero}
 use Rattle.credit_math.specs.Limits.{maxOrders}
 use Rattle.credit_math.specs.Error.{noCross}
 use Rattle.book.specs.Book.{noOrder, isLive, isBuy}

@@ -14,7 +14,7 @@ use Rattle.laws.specs.Lists.{same}
 use Rattle.laws.proofs.Tests.{clash}
 use Rattle.laws.proofs.Search.{some-at}
 use Rattle.laws.proofs.Lists.{unseen, same-eq}
-use Rattle.laws.proofs.Checks.{check-zero, unless-zero}
+use Rattle.laws.proofs.Checking.{check-zero, unless-zero}
 use Rattle.credit_math.specs.Limits.{maxOrders}
 use Rattle.book.specs.Limits.{maxFills}
 use Rattle.book.specs.Book.{noOrder, noWallet, listed, emptyOrder, emptyFill}

@@ -15,7 +15,7 @@ use Rattle.laws.specs.Lists.{same}
 use Rattle.laws.proofs.Tests.{tested, clash}
 use Rattle.laws.proofs.Search.{every-all}
 use Rattle.laws.proofs.Lists.{unseen}
-use Rattle.laws.proofs.Checks.{check-zero, check-pass, unless-pass}
+use Rattle.laws.proofs.Checking.{check-zero, check-pass, unless-pass}
 use Rattle.credit_math.specs.Limits.{maxOrders}
 use Rattle.book.specs.Limits.{maxFills}
 use Rattle.book.specs.Book.{noOrder, noWallet, orderIn, listed, emptyOrder}

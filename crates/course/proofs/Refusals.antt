@@ -11,7 +11,7 @@ use Rattle.laws.specs.Lists.{Member}
 use Rattle.laws.specs.Checks.{unless, _then_}
 use Rattle.laws.proofs.Tests.{tested, lt-or-le}
 use Rattle.laws.proofs.Members.{has, has-member}
-use Rattle.laws.proofs.Checks.{then-pass, then-in, unless-in, check-in}
+use Rattle.laws.proofs.Checking.{then-pass, then-in, unless-in, check-in}
 use Rattle.book.specs.Clear.{liveOrders, mathOverflow}
 use Rattle.book.specs.Claims as book
 use Rattle.book.specs.Claims.{ClearIsRight}

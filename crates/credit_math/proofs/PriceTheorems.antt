@@ -9,7 +9,7 @@ use native.Mathlib.Nat.{lt-of-lt-of-le}
 use native.Mathlib.Omega.{arith}
 use lib.Dec.{lit<, lit≤}
 use Rattle.laws.specs.Lists.{Member}
-use Rattle.laws.proofs.Checks.{check-in, unless-in}
+use Rattle.laws.proofs.Checking.{check-in, unless-in}
 use Rattle.credit_math.specs.Limits.{maxOrders, volumeBits}
 use Rattle.credit_math.specs.Error.{badLength, noCross}
 use Rattle.credit_math.specs.Price.{Best, none, at, Found, refused, failed, cross, priced, executed, better, clearPrice, priceRefusal, findUniformClearPrice}

@@ -10,7 +10,7 @@ pub mod Sort
 pub mod Lex
 pub mod Rank
 pub mod Ranked
-pub mod Checks
+pub mod Checking
 pub mod Bits
 pub mod Members
 pub mod Only

@@ -31,6 +31,11 @@ pub neither : (a b : Bool) → a || b ≡ false → (a ≡ false) × (b ≡ fals
 neither true b e = (e, cc)
 neither false b e = (refl, e)
 
+pub either-not : (a b : Bool) → (a || b) ≡ not (not a && not b)
+either-not true b = refl
+either-not false true = refl
+either-not false false = refl
+
 pub lt-or-le : (a b : ℕ) → (a < b) ⊎ (b ≤ a)
 lt-or-le a b = elim (decLt a b) [ yes h ↦ inl h | no h ↦ inr (omega (arith, lt-of-not-le h)) ]
 

@@ -1,1 +1,2 @@
-// No code: definitions (specs/) and laws (proofs/) that several crates share, each stated once.
+// Definitions (specs/) and laws (proofs/) that several crates share, each stated once. The one module of code has lists of checks.
+pub mod checks;

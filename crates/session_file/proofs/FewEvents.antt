@@ -10,7 +10,7 @@ use lib.IntN.{ℤ}
 use lib.ListN.{length, length-append}
 use borrow.Author.Tests.{leb-true}
 use Rattle.laws.specs.Checks.{unless, _then_}
-use Rattle.laws.proofs.Checks.{then-zero, check-zero, unless-zero}
+use Rattle.laws.proofs.Checking.{then-zero, check-zero, unless-zero}
 use Rattle.laws.proofs.Tests.{tested}
 use Rattle.book.specs.Limits.{maxFills}
 use Rattle.book.specs.declared.clear.Outcome.{Outcome}

@@ -8,7 +8,7 @@ use native.Mathlib.Omega.{arith}
 use lib.Dec.{eqb}
 use lib.ListN.{length}
 use borrow.Author.Tests.{eqb-true, eq-eqb, ltb-true, leb-true}
-use Rattle.laws.proofs.Checks.{check-zero}
+use Rattle.laws.proofs.Checking.{check-zero}
 use Rattle.session_file.specs.declared.records.Mark.{Mark}
 use Rattle.session_file.specs.declared.records.Mark.the-variants.{Unknown, SH, OR, SC, CL, AL, RX, RC, ST, SK, FN, EX}
 use Rattle.session_file.specs.Marks.{shapeOf, inPlace, noKind, headerKind, orderKind, callKind}

@@ -10,7 +10,7 @@ use lib.ListN.{length, drop, length-drop}
 use borrow.Author.Tests.{eq-eqb, ne-eqb, eqb-true, eqb-false}
 use Rattle.laws.specs.Checks.{unless, _then_}
 use Rattle.laws.proofs.Tests.{tested}
-use Rattle.laws.proofs.Checks.{then-pass}
+use Rattle.laws.proofs.Checking.{then-pass}
 use Rattle.credit_math.specs.Limits.{maxOrders}
 use Rattle.book.specs.Limits.{maxFills}
 use Rattle.book.specs.Book.{listed}

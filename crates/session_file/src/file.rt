@@ -11,13 +11,13 @@ use crate::fields::Fields;
 use crate::records;
 use auction_engine::Answer;
 use auction_engine::Session;
-use auction_engine::both;
 use auction_engine::opening;
 use book::Given;
 use book::Params;
 use events::Event;
 use events::Events;
 use events::Few;
+use laws::checks::both;
 
 // Where a file stands: the place of its next record, and the kind of the record before.
 pub struct Place {

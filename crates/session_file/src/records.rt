@@ -10,9 +10,9 @@ ghost use Rattle.session_file.specs.Marks.{markOf, shapeOf, inPlace};
 ghost use Rattle.session_file.specs.Reads.{flagsRefusal};
 ghost use Rattle.session_file.specs.Heads.{shapeIn, flagsIn, headAt};
 use crate::bytes;
-use auction_engine::both;
-use auction_engine::first_of;
-use auction_engine::unless;
+use laws::checks::both;
+use laws::checks::first_of;
+use laws::checks::unless;
 
 // What a mark says.
 pub enum Mark {

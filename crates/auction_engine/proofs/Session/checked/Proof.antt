@@ -2,7 +2,7 @@
 -- Assumes nothing.
 use mathlib.Core.Path.{sym, _∙_}
 use borrow.Author.Needs.{needs}
-use Rattle.laws.proofs.Checks.{then-stop, then-pass}
+use Rattle.laws.proofs.Checking.{then-stop, then-pass}
 use Rattle.auction_engine.specs.Call.{limitsRefusal, fieldsRefusal}
 use Rattle.auction_engine.proofs.Checks.{limits-orders}
 use Rattle.auction_engine.proofs.Session.checked.Statement.{statement}

@@ -6,7 +6,7 @@ use lib.Dec.{ltb}
 use borrow.Author.Needs.{needs}
 use Rattle.laws.specs.Search.{every}
 use Rattle.laws.specs.Checks.{unless, _then_}
-use Rattle.laws.proofs.Checks.{then-pass}
+use Rattle.laws.proofs.Checking.{then-pass}
 use Rattle.book.specs.Limits.{maxFills}
 use Rattle.auction_engine.specs.Call as call
 use Rattle.auction_engine.specs.Call.{argumentsRefusal}

@@ -4,7 +4,7 @@ use native.Mathlib.Omega.{arith}
 use borrow.Author.Needs.{needs}
 use borrow.Author.Tests.{le-ltb, lt-ltb}
 use Rattle.laws.specs.Checks.{_then_, unless}
-use Rattle.laws.proofs.Checks.{then-pass, unless-pass}
+use Rattle.laws.proofs.Checking.{then-pass, unless-pass}
 use Rattle.auction_engine.proofs.Session.order_refusal.Statement.{statement}
 use Rattle.auction_engine.proofs.Session.order_refusal.Tie as tie
 

@@ -5,7 +5,7 @@ use Prim.Native.Nat.{_<_}
 use mir.Facts.{toZ-ofZ}
 use borrow.Author.Needs.{needs}
 use Rattle.laws.specs.Checks.{unless, _then_}
-use Rattle.laws.proofs.Checks.{then-assoc}
+use Rattle.laws.proofs.Checking.{then-assoc}
 use Rattle.credit_math.specs.Limits.{maxOrders}
 use Rattle.auction_engine.specs.Call as call
 use Rattle.auction_engine.specs.Call.{argumentsRefusal}

@@ -4,7 +4,7 @@ use mathlib.Core.Path.{_≡_, refl, sym, _∙_, ap}
 use Prim.Native.Nat.{_<_}
 use borrow.Author.Needs.{needs}
 use Rattle.laws.specs.Checks.{unless}
-use Rattle.laws.proofs.Checks.{then-pass}
+use Rattle.laws.proofs.Checking.{then-pass}
 use Rattle.book.specs.Limits.{maxFills}
 use Rattle.auction_engine.specs.Call as call
 use Rattle.auction_engine.specs.Call.{argumentsRefusal}

@@ -3,7 +3,7 @@
 use mathlib.Core.Path.{_∙_}
 use borrow.Author.Needs.{needs}
 use borrow.Author.Tests.{eq-eqb, ne-eqb}
-use Rattle.laws.proofs.Checks.{then-stop, then-pass}
+use Rattle.laws.proofs.Checking.{then-stop, then-pass}
 use Rattle.session_file.specs.Steps.{earlyRefusal}
 use Rattle.session_file.proofs.file.early_refusal.Statement.{statement}
 use Rattle.session_file.proofs.file.early_refusal.Tie as tie

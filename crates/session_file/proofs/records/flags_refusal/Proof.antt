@@ -4,7 +4,7 @@ use mathlib.Core.List.{[], _∷_}
 use native.Mathlib.Omega.{arith}
 use lib.Seq.{take-all}
 use borrow.Author.Needs.{needs}
-use Rattle.laws.proofs.Checks.{then-nothing}
+use Rattle.laws.proofs.Checking.{then-nothing}
 use Rattle.session_file.specs.Reads.{flagsRefusal}
 use Rattle.session_file.proofs.records.flags_refusal.Statement.{statement}
 use Rattle.session_file.proofs.records.flags_refusal.Tie as tie

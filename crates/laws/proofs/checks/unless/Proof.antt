@@ -1,8 +1,8 @@
--- `auction_engine::unless` meets its contract, by the branches.
+-- `laws::checks::unless` meets its contract, by the branches.
 -- Assumes nothing.
 use Rattle.laws.specs.Checks.{unless}
-use Rattle.auction_engine.proofs.unless.Statement.{statement}
-use Rattle.auction_engine.proofs.unless.Tie as tie
+use Rattle.laws.proofs.checks.unless.Statement.{statement}
+use Rattle.laws.proofs.checks.unless.Tie as tie
 
 returns : tie.Need-returns
 unfolding unless

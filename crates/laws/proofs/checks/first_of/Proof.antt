@@ -1,8 +1,8 @@
--- `auction_engine::first_of` meets its contract: one that passes leaves it to the rest, and one that fails decides.
+-- `laws::checks::first_of` meets its contract: one that passes leaves it to the rest, and one that fails decides.
 -- Assumes nothing.
-use Rattle.laws.proofs.Checks.{then-stop, then-pass}
-use Rattle.auction_engine.proofs.first_of.Statement.{statement}
-use Rattle.auction_engine.proofs.first_of.Tie as tie
+use Rattle.laws.proofs.Checking.{then-stop, then-pass}
+use Rattle.laws.proofs.checks.first_of.Statement.{statement}
+use Rattle.laws.proofs.checks.first_of.Tie as tie
 
 returns : tie.Need-returns
 returns c = then-pass (c .before .args .m) (c .before .args .n) (c .if1 .taken)
