@@ -3,9 +3,9 @@
 // named by its number from 0.
 ghost use Prim.Native.Nat.{_≤_};
 ghost use lib.ListN.{length};
+use bytes::reading;
 use libc::STDIN_FILENO;
 use libc::STDOUT_FILENO;
-use session_file::bytes;
 
 // More cases than the list has: every program ends.
 const MOST: u64 = 1_000_000;
@@ -90,7 +90,7 @@ fn read_part(buf: &mut [u8]) -> Part
 {
     let mut head = [0u8; 4];
     let got = io::read_full(STDIN_FILENO, &mut head);
-    let len = bytes::u32_at(&head, 0) as usize;
+    let len = reading::u32_at(&head, 0) as usize;
     if got < 4 {
         return Part {
             whole: false,

@@ -1,5 +1,4 @@
 -- Laws of a session file.
-pub mod Numbers
 pub mod Marks
 pub mod Reading
 pub mod Lines

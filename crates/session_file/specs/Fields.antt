@@ -7,7 +7,7 @@ use Rattle.book.specs.declared.Row.{Row}
 use Rattle.auction_engine.specs.Call.{Call, screen, clear, allocate, exercise, close, settle, skip, finish, expire}
 use Rattle.session_file.specs.declared.records.Mark.{Mark}
 use Rattle.session_file.specs.declared.records.Mark.the-variants.{Unknown, SH, OR, SC, CL, AL, RX, RC, ST, SK, FN, EX}
-use Rattle.session_file.specs.Bytes.{word, bytesAt, timeAt, flagAt}
+use Rattle.bytes.specs.Bytes.{word, bytesAt, timeAt, flagAt}
 
 -- `SH`: reveal_end 8, rofr_window 8, settle_deadline 8, max_cash 8, min_reveals 1, forced 1, rofr_authority 32
 unfoldable pub paramsOf : List ℕ → Params

@@ -1,5 +1,4 @@
 -- A session file: its records, what they make, its listing.
-pub mod Bytes
 pub mod Marks
 pub mod Fields
 pub mod Reads

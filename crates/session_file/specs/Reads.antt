@@ -6,7 +6,7 @@ use lib.Dec.{ltb, leb, eqb}
 use lib.ListN.{length, take, drop}
 use Rattle.laws.specs.Checks.{unless, _then_}
 use Rattle.session_file.specs.declared.records.Mark.{Mark}
-use Rattle.session_file.specs.Bytes.{word}
+use Rattle.bytes.specs.Bytes.{word}
 use Rattle.session_file.specs.Marks.{markOf, Shape, shapeOf, inPlace, noKind}
 use Rattle.session_file.specs.Fields.{Read, refused, fieldsOf}
 

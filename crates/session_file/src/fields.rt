@@ -3,7 +3,6 @@ ghost use mathlib.Core.Path.{_≡_};
 ghost use Rattle.session_file.specs.Fields.{paramsOf, givenOf, rowOf, header, order, fieldsOf};
 ghost use Rattle.session_file.specs.Calls.{blankParams, blankGiven, blankRow, noFields, headerFields, orderFields, callFields, fieldsIn};
 ghost use Rattle.session_file.specs.Steps.{recordIn};
-use crate::bytes;
 use crate::calls;
 use crate::file::Place;
 use crate::records;
@@ -12,6 +11,7 @@ use auction_engine::CallRecord;
 use book::Given;
 use book::Params;
 use book::Row;
+use bytes::reading;
 
 // What stands in a record: its kind, and the fields of that kind; those of the other kinds are blank.
 pub struct Fields {
@@ -154,13 +154,13 @@ fn no_row() -> Row
 fn params_of(rec: &[u8]) -> Params
     ensures { λ r. ⌜ r ≡ paramsOf (now (rec .entry)) ⌝ }
 {
-    let reveal_end = bytes::time_at(rec, 2);
-    let rofr_window = bytes::time_at(rec, 10);
-    let settle_deadline = bytes::time_at(rec, 18);
-    let max_cash = bytes::u64_at(rec, 26);
-    let min_reveals = bytes::u8_at(rec, 34);
-    let forced = bytes::flag_at(rec, 35);
-    let rofr_authority = bytes::key_at(rec, 36);
+    let reveal_end = reading::time_at(rec, 2);
+    let rofr_window = reading::time_at(rec, 10);
+    let settle_deadline = reading::time_at(rec, 18);
+    let max_cash = reading::u64_at(rec, 26);
+    let min_reveals = reading::u8_at(rec, 34);
+    let forced = reading::flag_at(rec, 35);
+    let rofr_authority = reading::key_at(rec, 36);
     Params {
         reveal_end,
         rofr_window,
@@ -175,11 +175,11 @@ fn params_of(rec: &[u8]) -> Params
 fn given_of(rec: &[u8]) -> Given
     ensures { λ r. ⌜ r ≡ givenOf (now (rec .entry)) ⌝ }
 {
-    let mark = bytes::flag_at(rec, 68);
-    let reserve = bytes::u64_at(rec, 69);
-    let reference = bytes::u64_at(rec, 77);
-    let policy = bytes::u8_at(rec, 85);
-    let band_bps = bytes::u64_at(rec, 86);
+    let mark = reading::flag_at(rec, 68);
+    let reserve = reading::u64_at(rec, 69);
+    let reference = reading::u64_at(rec, 77);
+    let policy = reading::u8_at(rec, 85);
+    let band_bps = reading::u64_at(rec, 86);
     Given {
         mark,
         reserve,
@@ -192,12 +192,12 @@ fn given_of(rec: &[u8]) -> Given
 fn row_of(rec: &[u8]) -> Row
     ensures { λ r. ⌜ r ≡ rowOf (now (rec .entry)) ⌝ }
 {
-    let owner = bytes::key_at(rec, 2);
-    let side = bytes::u8_at(rec, 34);
-    let escrowed = bytes::u64_at(rec, 35);
-    let revealed = bytes::flag_at(rec, 43);
-    let limit = bytes::u64_at(rec, 44);
-    let qty = bytes::u64_at(rec, 52);
+    let owner = reading::key_at(rec, 2);
+    let side = reading::u8_at(rec, 34);
+    let escrowed = reading::u64_at(rec, 35);
+    let revealed = reading::flag_at(rec, 43);
+    let limit = reading::u64_at(rec, 44);
+    let qty = reading::u64_at(rec, 52);
     Row {
         owner,
         side,

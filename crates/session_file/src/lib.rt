@@ -13,7 +13,6 @@ use crate::file::Place;
 use auction_engine::Session;
 use listing::Written;
 
-pub mod bytes;
 mod calls;
 mod fields;
 mod file;

@@ -5,11 +5,11 @@ ghost use Prim.Native.Nat.{ℕ, _+_, _<_, _≤_};
 ghost use lib.Dec.{leb};
 ghost use lib.ListN.{length, take, drop};
 ghost use Rattle.laws.specs.Checks.{unless};
-ghost use Rattle.session_file.specs.Bytes.{word};
+ghost use Rattle.bytes.specs.Bytes.{word};
 ghost use Rattle.session_file.specs.Marks.{markOf, shapeOf, inPlace};
 ghost use Rattle.session_file.specs.Reads.{flagsRefusal};
 ghost use Rattle.session_file.specs.Heads.{shapeIn, flagsIn, headAt};
-use crate::bytes;
+use bytes::reading;
 use laws::checks::both;
 use laws::checks::first_of;
 use laws::checks::unless;
@@ -122,7 +122,7 @@ pub struct Head {
 pub fn head_of(rest: &[u8], before: u8) -> Head
     ensures { λ r. ⌜ r ≡ headAt before (now (rest .entry)) ⌝ }
 {
-    let mark = mark_of(bytes::u16_at(rest, 0));
+    let mark = mark_of(reading::u16_at(rest, 0));
     let s = shape_of(mark);
     let width = s.width;
     let whole = unless(2 <= rest.len(), refusals::NO_RECORD);
@@ -180,5 +180,5 @@ fn flags_refusal(rec: &[u8], s: Shape) -> u8
 fn flag_refusal(rec: &[u8], at: usize) -> u8
     ensures { λ r. ⌜ r ≡ unless (leb (word 1 (now (rec .entry)) at) 1) 4 ⌝ }
 {
-    unless(bytes::u8_at(rec, at) <= 1, refusals::BAD_FIELD)
+    unless(reading::u8_at(rec, at) <= 1, refusals::BAD_FIELD)
 }

@@ -11,7 +11,7 @@ use Rattle.book.specs.declared.Fill.{Fill}
 use Rattle.auction_engine.specs.declared.Session.{Session}
 use Rattle.auction_engine.specs.declared.Cleared.{Cleared}
 use Rattle.auction_engine.specs.declared.CallRecord.{CallRecord}
-use Rattle.session_file.specs.Bytes.{word, bytesAt, timeAt, flagAt}
+use Rattle.bytes.specs.Bytes.{word, bytesAt, timeAt, flagAt}
 
 -- the count of orders; the first order, and the bytes of each
 abbrev pub orderCountAt : ℕ

@@ -12,7 +12,7 @@ use book::Fill;
 use book::Given;
 use book::Order;
 use book::Params;
-use session_file::bytes;
+use bytes::reading;
 
 // The count of orders, the first order, and the bytes of each; the same of fills; the call.
 const ORDER_COUNT_AT: usize = 141;
@@ -45,28 +45,28 @@ pub fn session_in(block: &[u8]) -> Session
         params,
         given,
         cleared,
-        phase: bytes::u8_at(block, 92),
-        rofr_qty: bytes::u64_at(block, 125),
-        fills_settled: bytes::u32_at(block, 133),
-        skipped_fills: bytes::u32_at(block, 137),
+        phase: reading::u8_at(block, 92),
+        rofr_qty: reading::u64_at(block, 125),
+        fills_settled: reading::u32_at(block, 133),
+        skipped_fills: reading::u32_at(block, 137),
         orders,
-        order_count: bytes::u8_at(block, ORDER_COUNT_AT) as usize,
+        order_count: reading::u8_at(block, ORDER_COUNT_AT) as usize,
         fills,
-        fill_count: bytes::u8_at(block, FILL_COUNT_AT) as usize,
+        fill_count: reading::u8_at(block, FILL_COUNT_AT) as usize,
     }
 }
 
 fn params_in(block: &[u8]) -> Params
     ensures { λ r. ⌜ r ≡ paramsIn (now (block .entry)) ⌝ }
 {
-    let rofr_authority = bytes::key_at(block, 34);
+    let rofr_authority = reading::key_at(block, 34);
     Params {
-        reveal_end: bytes::time_at(block, 0),
-        rofr_window: bytes::time_at(block, 8),
-        settle_deadline: bytes::time_at(block, 16),
-        max_cash: bytes::u64_at(block, 24),
-        min_reveals: bytes::u8_at(block, 32),
-        forced: bytes::flag_at(block, 33),
+        reveal_end: reading::time_at(block, 0),
+        rofr_window: reading::time_at(block, 8),
+        settle_deadline: reading::time_at(block, 16),
+        max_cash: reading::u64_at(block, 24),
+        min_reveals: reading::u8_at(block, 32),
+        forced: reading::flag_at(block, 33),
         rofr_authority,
     }
 }
@@ -75,11 +75,11 @@ fn given_in(block: &[u8]) -> Given
     ensures { λ r. ⌜ r ≡ givenIn (now (block .entry)) ⌝ }
 {
     Given {
-        mark: bytes::flag_at(block, 66),
-        reserve: bytes::u64_at(block, 67),
-        reference: bytes::u64_at(block, 75),
-        policy: bytes::u8_at(block, 83),
-        band_bps: bytes::u64_at(block, 84),
+        mark: reading::flag_at(block, 66),
+        reserve: reading::u64_at(block, 67),
+        reference: reading::u64_at(block, 75),
+        policy: reading::u8_at(block, 83),
+        band_bps: reading::u64_at(block, 84),
     }
 }
 
@@ -87,10 +87,10 @@ fn cleared_in(block: &[u8]) -> Cleared
     ensures { λ r. ⌜ r ≡ clearedIn (now (block .entry)) ⌝ }
 {
     Cleared {
-        clear_price: bytes::u64_at(block, 93),
-        cleared_volume: bytes::u64_at(block, 101),
-        reserve_price: bytes::u64_at(block, 109),
-        reference_mark: bytes::u64_at(block, 117),
+        clear_price: reading::u64_at(block, 93),
+        cleared_volume: reading::u64_at(block, 101),
+        reserve_price: reading::u64_at(block, 109),
+        reference_mark: reading::u64_at(block, 117),
     }
 }
 
@@ -111,19 +111,19 @@ fn order_in(block: &[u8], i: usize) -> Order
     ensures { λ r. ⌜ r ≡ orderIn (now (block .entry)) i ⌝ }
 {
     let at = ORDERS_AT + ORDER * i;
-    let owner = bytes::key_at(block, at);
-    let investor_id = bytes::id_at(block, at + 76);
+    let owner = reading::key_at(block, at);
+    let investor_id = reading::id_at(block, at + 76);
     Order {
         owner,
-        side: bytes::u8_at(block, at + 32),
-        escrowed: bytes::u64_at(block, at + 33),
-        revealed: bytes::flag_at(block, at + 41),
-        limit: bytes::u64_at(block, at + 42),
-        qty: bytes::u64_at(block, at + 50),
-        alloc: bytes::u64_at(block, at + 58),
-        alloc_left: bytes::u64_at(block, at + 66),
-        screened: bytes::flag_at(block, at + 74),
-        eligible: bytes::flag_at(block, at + 75),
+        side: reading::u8_at(block, at + 32),
+        escrowed: reading::u64_at(block, at + 33),
+        revealed: reading::flag_at(block, at + 41),
+        limit: reading::u64_at(block, at + 42),
+        qty: reading::u64_at(block, at + 50),
+        alloc: reading::u64_at(block, at + 58),
+        alloc_left: reading::u64_at(block, at + 66),
+        screened: reading::flag_at(block, at + 74),
+        eligible: reading::flag_at(block, at + 75),
         investor_id,
     }
 }
@@ -145,34 +145,34 @@ fn fill_in(block: &[u8], i: usize) -> Fill
     ensures { λ r. ⌜ r ≡ fillIn (now (block .entry)) i ⌝ }
 {
     let at = FILLS_AT + FILL * i;
-    let buyer = bytes::key_at(block, at);
-    let seller = bytes::key_at(block, at + 32);
+    let buyer = reading::key_at(block, at);
+    let seller = reading::key_at(block, at + 32);
     Fill {
         buyer,
         seller,
-        qty: bytes::u64_at(block, at + 64),
-        rofr: bytes::flag_at(block, at + 72),
-        settled: bytes::flag_at(block, at + 73),
+        qty: reading::u64_at(block, at + 64),
+        rofr: reading::flag_at(block, at + 72),
+        settled: reading::flag_at(block, at + 73),
     }
 }
 
 pub fn call_in(block: &[u8]) -> CallRecord
     ensures { λ r. ⌜ r ≡ callIn (now (block .entry)) ⌝ }
 {
-    let id = bytes::id_at(block, CALL_AT + 12);
-    let wallet = bytes::key_at(block, CALL_AT + 29);
+    let id = reading::id_at(block, CALL_AT + 12);
+    let wallet = reading::key_at(block, CALL_AT + 29);
     CallRecord {
-        kind: bytes::u8_at(block, CALL_AT),
-        now: bytes::time_at(block, CALL_AT + 1),
-        order: bytes::u8_at(block, CALL_AT + 9),
-        side: bytes::u8_at(block, CALL_AT + 10),
-        verdict: bytes::u8_at(block, CALL_AT + 11),
-        has_id: bytes::flag_at(block, CALL_AT + 74),
+        kind: reading::u8_at(block, CALL_AT),
+        now: reading::time_at(block, CALL_AT + 1),
+        order: reading::u8_at(block, CALL_AT + 9),
+        side: reading::u8_at(block, CALL_AT + 10),
+        verdict: reading::u8_at(block, CALL_AT + 11),
+        has_id: reading::flag_at(block, CALL_AT + 74),
         id,
-        max_fills: bytes::u8_at(block, CALL_AT + 28),
+        max_fills: reading::u8_at(block, CALL_AT + 28),
         wallet,
-        fill: bytes::u32_at(block, CALL_AT + 61),
-        qty: bytes::u64_at(block, CALL_AT + 65),
-        reason: bytes::u8_at(block, CALL_AT + 73),
+        fill: reading::u32_at(block, CALL_AT + 61),
+        qty: reading::u64_at(block, CALL_AT + 65),
+        reason: reading::u8_at(block, CALL_AT + 73),
     }
 }

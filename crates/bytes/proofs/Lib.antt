@@ -1,0 +1,2 @@
+-- Laws of the numbers that bytes say.
+pub mod Numbers

@@ -1,0 +1,38 @@
+-- `bytes::reading::u32_at` meets its contract, where its bytes stand there and where some are past the end.
+-- Assumes nothing.
+use borrow.Author.Needs.{needs}
+use Rattle.bytes.proofs.reading.u32_at.Statement.{statement}
+use Rattle.bytes.proofs.reading.u32_at.Tie as tie
+
+holds-requires : tie.Need-holds-requires
+holds-requires c κs = search needs
+
+quad-requires : tie.Need-quad-requires
+quad-requires c κs = c .before .holds .ensures (c .if1 .taken)
+
+cast-result : tie.Need-cast-result
+cast-result c = search needs
+
+returns : tie.Need-returns
+returns c = search needs
+
+word-at-requires : tie.Need-word-at-requires
+word-at-requires c κs = search needs
+
+cast-result-2 : tie.Need-cast-result-2
+cast-result-2 c = search needs
+
+returns-2 : tie.Need-returns-2
+returns-2 c = search needs
+
+pub u32-at-spec : {M : Type 1} → statement M
+u32-at-spec =
+    tie.close
+    (tie.spec
+    holds-requires
+    quad-requires
+    cast-result
+    returns
+    word-at-requires
+    cast-result-2
+    returns-2)

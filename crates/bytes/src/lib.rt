@@ -1,0 +1,2 @@
+// Bytes and the numbers that they say.
+pub mod reading;
