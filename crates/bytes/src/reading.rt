@@ -1,6 +1,5 @@
 // Little-endian fields of a record. Bytes past the end are read as 0, so nothing is asked of the caller.
 ghost use mathlib.Core.Path.{_≡_};
-ghost use mathlib.Core.Bool.{true};
 ghost use Prim.Native.Nat.{ℕ, _+_, _*_, _^_, _<_, _≤_};
 ghost use lib.ListN.{length, getD};
 ghost use Rattle.bytes.specs.Bytes.{word, bytesAt, signed, timeAt, flagAt};
@@ -17,7 +16,7 @@ pub fn u8_at(rec: &[u8], at: usize) -> u8
 pub fn u16_at(rec: &[u8], at: usize) -> u16
     ensures { λ r. ⌜ r ≡ word 2 (now (rec .entry)) at ⌝ }
 {
-    if holds(rec, at, 2) {
+    if crate::holds(rec.len(), at, 2) {
         return pair(rec, at) as u16;
     }
     word_at(rec, at, 2) as u16
@@ -26,7 +25,7 @@ pub fn u16_at(rec: &[u8], at: usize) -> u16
 pub fn u32_at(rec: &[u8], at: usize) -> u32
     ensures { λ r. ⌜ r ≡ word 4 (now (rec .entry)) at ⌝ }
 {
-    if holds(rec, at, 4) {
+    if crate::holds(rec.len(), at, 4) {
         return quad(rec, at) as u32;
     }
     word_at(rec, at, 4) as u32
@@ -35,22 +34,12 @@ pub fn u32_at(rec: &[u8], at: usize) -> u32
 pub fn u64_at(rec: &[u8], at: usize) -> u64
     ensures { λ r. ⌜ r ≡ word 8 (now (rec .entry)) at ⌝ }
 {
-    if holds(rec, at, 8) {
+    if crate::holds(rec.len(), at, 8) {
         let low = quad(rec, at);
         let high = quad(rec, at + 4);
         return low + 4294967296 * high;
     }
     word_at(rec, at, 8)
-}
-
-// Whether k bytes stand at a place.
-fn holds(rec: &[u8], at: usize, k: usize) -> bool
-    ensures { λ r. ⌜ (r ≡ true → at + k ≤ length (now (rec .entry))) ⌝ }
-{
-    if at <= rec.len() {
-        return k <= rec.len() - at;
-    }
-    false
 }
 
 // Two bytes that stand there.

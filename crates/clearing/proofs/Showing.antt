@@ -5,10 +5,10 @@ use mathlib.Core.List.{List}
 use Prim.Native.Nat.{ℕ, _≤_, _<_}
 use lib.ListN.{length}
 use borrow.Author.Tests.{eq-eqb}
-use Rattle.listing.specs.declared.Written.{Written}
+use Rattle.bytes.specs.declared.writing.Written.{Written}
 use Rattle.listing.specs.Lines.{maxRecord}
-use Rattle.listing.specs.Writing.{written, Writes}
-use Rattle.listing.proofs.Answers.{answer-small}
+use Rattle.bytes.specs.Writing.{written, Writes}
+use Rattle.bytes.proofs.Answers.{answer-small}
 use Rattle.session_file.specs.declared.parts.Standing.{Standing}
 use Rattle.session_file.specs.declared.parts.Part.{Part}
 use Rattle.session_file.specs.Parts.{PartPut}

@@ -7,12 +7,13 @@ use native.Mathlib.Numerals.{add-one}
 use native.Mathlib.Omega.{arith}
 use lib.ListN.{length, getD, take, set}
 use lib.Seq.{take-suc}
+use Rattle.bytes.specs.Decimal.{decimal}
+use Rattle.bytes.specs.Writing.{Puts}
+use Rattle.bytes.proofs.Spliced.{puts-puts, puts-byte}
 use Rattle.listing.specs.declared.words.Parts.{Parts}
 use Rattle.listing.specs.Words.{space, newline}
-use Rattle.listing.specs.Lines.{decimal, fields, line}
+use Rattle.listing.specs.Lines.{fields, line}
 use Rattle.listing.specs.Parts.{letters, figures, rest, partsLine}
-use Rattle.listing.specs.Writing.{Puts}
-use Rattle.listing.proofs.Spliced.{puts-puts, puts-byte}
 
 fields-append : (l m : List ℕ) → fields (l ++ m) ≡ fields l ++ fields m
 unfolding fields

@@ -11,13 +11,13 @@ use lib.ListN.{length, getD, take}
 use lib.Seq.{take-suc}
 use Rattle.events.specs.declared.Event.{Event}
 use Rattle.events.specs.declared.Line.{Line}
+use Rattle.bytes.specs.Writing.{Puts}
+use Rattle.bytes.proofs.Spliced.{puts-puts}
 use Rattle.listing.specs.declared.words.Word.{Word}
 use Rattle.listing.specs.declared.words.Parts.{Parts}
 use Rattle.listing.specs.Words.{noneWord, endWord, space, newline}
 use Rattle.listing.specs.Lines.{eventLine, eventLines, recordLines, endLine}
 use Rattle.listing.specs.Parts.{letters, parts, rest}
-use Rattle.listing.specs.Writing.{Puts}
-use Rattle.listing.proofs.Spliced.{puts-puts}
 
 -- the events that lines hold
 abbrev pub eventsOf : List Line → List Event

@@ -2,4 +2,3 @@
 pub mod Words
 pub mod Lines
 pub mod Parts
-pub mod Writing

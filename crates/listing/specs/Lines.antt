@@ -1,23 +1,14 @@
 -- 'Listing': the lines of a record, and the last line.
 use mathlib.Core.Bool.{Bool, cond}
 use mathlib.Core.List.{List, [], _∷_, _++_}
-use Prim.Native.Nat.{ℕ, zero, suc, _+_, _*_, _/_, _%_}
+use Prim.Native.Nat.{ℕ, _+_, _*_}
 use lib.Count.{ones}
-use lib.Dec.{ltb}
 use Rattle.laws.specs.Sums.{only}
+use Rattle.bytes.specs.Decimal.{decimal, maxDigits}
 use Rattle.events.specs.Events.{maxEvents}
 use Rattle.events.specs.declared.Event.{Event}
 use Rattle.events.specs.declared.Event.the-variants.{Nothing, OrderScreened, Cleared, SessionFailed, FillAllocated, RofrExercised, RofrClosed, FillSettled, FillSkipped, ClearingPrint, PhaseChanged, Opened, Ordered, Refused}
 use Rattle.listing.specs.Words.{openWord, orderWord, screenWord, clearWord, failedWord, fillWord, rofrWord, closeWord, settleWord, skipWord, printWord, phaseWord, refusedWord, noneWord, endWord, space, newline}
-
--- 'the listing prints them in base ten': the last k digits of x at most, with no leading zero
-unfoldable pub digits : (k x : ℕ) → List ℕ
-digits zero x = []
-digits (suc k) x = cond (ltb x 10) [] (digits k (x / 10)) ++ ((48 + x % 10) ∷ [])
-
--- all of them: x has at most x + 1
-unfoldable pub decimal : ℕ → List ℕ
-decimal x = digits (suc x) x
 
 -- numbers, with a space before each
 unfoldable pub fields : List ℕ → List ℕ
@@ -61,10 +52,7 @@ unfoldable pub endLine : (accepted : Bool) (phase skipped : ℕ) → List ℕ
 endLine accepted phase skipped =
     cond accepted ((endWord ++ fields (phase ∷ ones skipped ∷ [])) ++ (newline ∷ [])) ((endWord ++ (space ∷ noneWord)) ++ (newline ∷ []))
 
--- the most digits of a 64-bit number, letters of a word, and figures of a line
-abbrev pub maxDigits : ℕ
-maxDigits = 20
-
+-- the most letters of a word, and figures of a line
 abbrev pub maxLetters : ℕ
 maxLetters = 10
 

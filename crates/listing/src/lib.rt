@@ -1,25 +1,26 @@
 // The text of a listing: each line writer is lent the part of the output after the lines already there.
 ghost use mathlib.Core.Path.{_≡_};
-ghost use mathlib.Core.Bool.{cond};
 ghost use mathlib.Core.List.{map};
-ghost use Prim.Native.Nat.{_+_, _*_, _%_, _<_, _≤_, min};
+ghost use Prim.Native.Nat.{_+_, _*_, _<_, _≤_, min};
 ghost use lib.Count.{ones};
-ghost use lib.Dec.{leb};
 ghost use lib.ListN.{length, take};
+ghost use Rattle.bytes.specs.Decimal.{maxDigits};
+ghost use Rattle.bytes.specs.Writing.{Writes, Puts};
 ghost use Rattle.events.specs.Events.{maxEvents, eventsIn, inFew};
-ghost use Rattle.listing.specs.Lines.{decimal, fields, recordLines, endLine, maxDigits, maxLetters, maxFigures, maxRest, maxLine, maxRecord};
+ghost use Rattle.listing.specs.Lines.{fields, recordLines, endLine, maxLetters, maxFigures, maxRest, maxLine, maxRecord};
 ghost use Rattle.listing.specs.Parts.{Short, rest, partsLine};
-ghost use Rattle.listing.specs.Writing.{Writes, Puts};
 use crate::words::Parts;
+use bytes::writing::MAX_DIGITS;
+use bytes::writing::Written;
+use bytes::writing::put_bytes;
+use bytes::writing::put_dec;
+use bytes::writing::put_text;
 use events::Events;
 use events::Few;
 use events::Line;
 use events::MAX_EVENTS;
 
 mod words;
-
-// The most digits of a number of 64 bits.
-const MAX_DIGITS: usize = 20;
 
 // The most letters of a word.
 const MAX_LETTERS: usize = 10;
@@ -32,12 +33,6 @@ const MAX_LINE: usize = MAX_DIGITS + 1 + MAX_LETTERS + MAX_FIGURES * (1 + MAX_DI
 
 // Room for any record's lines, and for the last line.
 pub const ROOM: usize = MAX_EVENTS * MAX_LINE;
-
-// What a writer answers: 0 and the length that it wrote, or 27.
-pub struct Written {
-    pub refusal: u8,
-    pub len: usize,
-}
 
 // A record's lines at the start of out; where they are longer than out, 27, and out is left as it was. ROOM is always enough.
 pub fn put_events(out: &mut [u8], number: u64, events: Events) -> Written
@@ -88,29 +83,6 @@ fn put_end_copied(out: &mut [u8], accepted: bool, phase: u8, skipped: u32) -> Wr
     let mut text = [0u8; ROOM];
     let len = put_last(&mut text, accepted, phase, skipped);
     put_text(out, &text[..len])
-}
-
-// A text at the start of out; where it is longer than out, 27, and out is left as it was.
-fn put_text(out: &mut [u8], text: &[u8]) -> Written
-    ensures { λ r. ⌜ Writes (now (text .entry)) r (now (out .entry)) (now (out .exit)) ⌝ }
-{
-    let answer = answer_for(text.len(), out.len());
-    let len = answer.len;
-    put_bytes(out, 0, &text[..len]);
-    answer
-}
-
-// The answer to a text of that length, where there is room for so many bytes.
-fn answer_for(len: usize, room: usize) -> Written
-    ensures { λ r. ⌜ r ≡ cond (leb len room) (record { refusal = 0; len = len }) (record { refusal = 27; len = 0 }) ⌝ }
-{
-    if room < len {
-        return Written {
-            refusal: refusals::OUTPUT_TOO_SMALL,
-            len: 0,
-        };
-    }
-    Written { refusal: 0, len }
 }
 
 // `none`, or a line for each event.
@@ -215,40 +187,6 @@ fn put_figures(out: &mut [u8], at: usize, nums: [u64; MAX_FIGURES], n: usize) ->
         i += 1;
     }
     k
-}
-
-// x in base ten.
-fn put_dec(out: &mut [u8], at: usize, x: u64) -> usize
-    requires { ⌜ at + maxDigits ≤ length (now out) ⌝ }
-    ensures { λ r. ⌜ Puts (decimal x) at r (now (out .entry)) (now (out .exit)) × (r ≤ at + maxDigits) ⌝ }
-{
-    if x < 10 {
-        out[at] = digit(x);
-        return at + 1;
-    }
-    let k = put_dec(out, at, x / 10);
-    out[k] = digit(x);
-    k + 1
-}
-
-// The last digit of x.
-fn digit(x: u64) -> u8
-    ensures { λ r. ⌜ r ≡ 48 + x % 10 ⌝ }
-{
-    b'0' + (x % 10) as u8
-}
-
-// The bytes of a text.
-fn put_bytes(out: &mut [u8], at: usize, bytes: &[u8]) -> usize
-    requires { ⌜ at + length (now bytes) ≤ length (now out) ⌝ }
-    ensures { λ r. ⌜ Puts (now (bytes .entry)) at r (now (out .entry)) (now (out .exit)) ⌝ }
-{
-    let mut i = 0;
-    while i < bytes.len() {
-        out[at + i] = bytes[i];
-        i += 1;
-    }
-    at + i
 }
 
 // The last line: phase and number of skipped fills, or `none` without an accepted header.

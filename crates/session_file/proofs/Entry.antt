@@ -13,8 +13,8 @@ use mir.Syntax.{w64}
 use mir.Val.{SFits, toZ, ofZ}
 use mir.Facts.{toZ-ofZ, toZ-pos}
 use borrow.Author.Tests.{lt-ltb, le-leb, lt-leb, leb-true, eq-eqb, ne-eqb}
-use Rattle.listing.specs.declared.Written.{Written}
-use Rattle.listing.specs.Writing.{written}
+use Rattle.bytes.specs.declared.writing.Written.{Written}
+use Rattle.bytes.specs.Writing.{written}
 use Rattle.session_file.specs.File.{maxInput, listing}
 use Rattle.session_file.specs.Entry.{entryAnswer, entryOutput, Entered, listAnswer, Listed}
 use Rattle.session_file.specs.Steps.{Ran}

@@ -14,7 +14,7 @@ use Rattle.events.specs.Events.{eventsIn}
 use Rattle.events.specs.declared.Event.the-variants.{Opened, Refused}
 use Rattle.events.proofs.Packed.{events-packed, few-packed}
 use Rattle.listing.specs.Lines.{recordLines}
-use Rattle.listing.specs.Writing.{written, after}
+use Rattle.bytes.specs.Writing.{written, after}
 use Rattle.auction_engine.specs.declared.Session.{Session}
 use Rattle.auction_engine.specs.declared.changes.Change.{Change}
 use Rattle.session_file.specs.declared.fields.Fields.{Fields}

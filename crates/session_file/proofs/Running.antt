@@ -10,10 +10,10 @@ use lib.Dec.{eqb}
 use lib.ListN.{length, take, drop, length-append, length-drop}
 use borrow.Author.Tests.{le-leb, lt-leb, eqb-true, eqb-false}
 use Rattle.laws.proofs.Tests.{tested}
-use Rattle.listing.specs.declared.Written.{Written}
+use Rattle.bytes.specs.declared.writing.Written.{Written}
 use Rattle.listing.specs.Lines.{recordLines}
-use Rattle.listing.specs.Writing.{written, Writes, Puts}
-use Rattle.listing.proofs.Spliced.{puts-none, puts-puts}
+use Rattle.bytes.specs.Writing.{written, Writes, Puts}
+use Rattle.bytes.proofs.Spliced.{puts-none, puts-puts}
 use Rattle.auction_engine.specs.declared.Session.{Session}
 use Rattle.session_file.specs.declared.file.Place.{Place}
 use Rattle.session_file.specs.File.{state, unopened, lastLine, maxInput, listing}

@@ -6,8 +6,8 @@ use Prim.Native.Nat.{ℕ}
 use lib.Dec.{leb}
 use lib.IntN.{ℤ, pos, negsuc}
 use lib.ListN.{length, replicate}
-use Rattle.listing.specs.Writing.{splice}
-use Rattle.listing.specs.declared.Written.{Written}
+use Rattle.bytes.specs.Writing.{splice}
+use Rattle.bytes.specs.declared.writing.Written.{Written}
 use Rattle.session_file.specs.File.{maxInput, listing}
 
 -- negsuc n is - (n + 1)

@@ -8,7 +8,7 @@ use lib.ListN.{length, drop}
 use Rattle.events.specs.declared.Event.{Event}
 use Rattle.events.specs.declared.Event.the-variants.{Refused}
 use Rattle.listing.specs.Lines.{recordLines, maxRecord}
-use Rattle.listing.specs.Writing.{Writes}
+use Rattle.bytes.specs.Writing.{Writes}
 use Rattle.auction_engine.specs.declared.Session.{Session}
 use Rattle.session_file.specs.declared.file.Place.{Place}
 use Rattle.session_file.specs.declared.parts.Standing.{Standing}

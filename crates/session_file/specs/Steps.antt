@@ -9,8 +9,8 @@ use Rattle.laws.specs.Checks.{_then_}
 use Rattle.events.specs.Events.{packed}
 use Rattle.events.specs.declared.Event.the-variants.{Refused}
 use Rattle.events.specs.declared.Events.{Events}
-use Rattle.listing.specs.Writing.{splice, written}
-use Rattle.listing.specs.declared.Written.{Written}
+use Rattle.bytes.specs.Writing.{splice, written}
+use Rattle.bytes.specs.declared.writing.Written.{Written}
 use Rattle.auction_engine.specs.declared.Session.{Session}
 use Rattle.auction_engine.specs.declared.Answer.{Answer}
 use Rattle.auction_engine.specs.declared.changes.Change.{Change}

@@ -4,14 +4,14 @@ ghost use mathlib.Core.Bool.{cond, not};
 ghost use Prim.Native.Nat.{_+_, _^_, _<_, _≤_};
 ghost use lib.Dec.{eqb};
 ghost use lib.ListN.{length, replicate};
-ghost use Rattle.listing.specs.Writing.{Writes};
+ghost use Rattle.bytes.specs.Writing.{Writes};
 ghost use Rattle.listing.specs.Lines.{endLine};
 ghost use Rattle.session_file.specs.File.{maxInput};
 ghost use Rattle.session_file.specs.Entry.{Listed, Entered};
 ghost use Rattle.session_file.specs.Steps.{Ran};
 use crate::file::Place;
 use auction_engine::Session;
-use listing::Written;
+use bytes::writing::Written;
 
 mod calls;
 mod fields;

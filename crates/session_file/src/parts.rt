@@ -13,9 +13,9 @@ use crate::file::Step;
 use crate::records;
 use auction_engine::Session;
 use auction_engine::changes::Change;
+use bytes::writing::Written;
 use events::Event;
 use events::Events;
-use listing::Written;
 
 // Where a listing stands: the file's place and session, and the number of the next record.
 pub struct Standing {

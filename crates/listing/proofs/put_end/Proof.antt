@@ -3,7 +3,7 @@
 use mathlib.Core.Path.{refl}
 use native.Mathlib.Omega.{arith}
 use borrow.Author.Needs.{needs}
-use Rattle.listing.proofs.Answers.{in-place}
+use Rattle.bytes.proofs.Answers.{in-place}
 use Rattle.listing.proofs.put_end.Statement.{statement}
 use Rattle.listing.proofs.put_end.Tie as tie
 

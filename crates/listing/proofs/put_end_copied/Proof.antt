@@ -3,7 +3,7 @@
 use mathlib.Core.Path.{sym}
 use lib.Seq.{length-take-le}
 use borrow.Author.Needs.{needs}
-use Rattle.listing.proofs.Answers.{within, printed}
+use Rattle.bytes.proofs.Answers.{within, printed}
 use Rattle.listing.proofs.put_end_copied.Statement.{statement}
 use Rattle.listing.proofs.put_end_copied.Tie as tie
 

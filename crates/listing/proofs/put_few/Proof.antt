@@ -4,7 +4,7 @@ use mathlib.Core.Path.{refl}
 use native.Mathlib.Omega.{arith}
 use borrow.Author.Needs.{needs}
 use Rattle.events.proofs.Packed.{few-packed}
-use Rattle.listing.proofs.Answers.{in-place}
+use Rattle.bytes.proofs.Answers.{in-place}
 use Rattle.listing.proofs.put_few.Statement.{statement}
 use Rattle.listing.proofs.put_few.Tie as tie
 

@@ -4,7 +4,7 @@ use native.Mathlib.Omega.{arith}
 use lib.ListN.{length-take, length-drop}
 use borrow.Author.Needs.{needs}
 use Rattle.events.proofs.Packed.{both-held}
-use Rattle.listing.proofs.Spliced.{puts-puts, puts-part}
+use Rattle.bytes.proofs.Spliced.{puts-puts, puts-part}
 use Rattle.listing.proofs.Parts.{event-short, event-line}
 use Rattle.listing.proofs.Lines.{lines-one, lines-two}
 use Rattle.listing.proofs.put_few_lines.Statement.{statement}

@@ -5,9 +5,11 @@ use Prim.Native.Nat.{_+_, _*_, _-_, _≤_}
 use native.Mathlib.Omega.{arith}
 use borrow.Author.Needs.{needs}
 use lib.ListN.{length, take, length-set}
-use Rattle.listing.specs.Lines.{fields, maxDigits}
-use Rattle.listing.specs.Writing.{Puts}
-use Rattle.listing.proofs.Spliced.{puts-none}
+use Rattle.bytes.specs.Decimal.{maxDigits}
+use Rattle.bytes.specs.Writing.{Puts}
+use Rattle.bytes.proofs.Spliced.{puts-none}
+use Rattle.bytes.proofs.Fitting.{puts-room}
+use Rattle.listing.specs.Lines.{fields}
 use Rattle.listing.proofs.Fields.{fields-none, puts-field}
 use Rattle.listing.proofs.put_figures.Statement.{statement}
 use Rattle.listing.proofs.put_figures.Tie as tie
@@ -34,7 +36,7 @@ array-read-put-dec : tie.Need-array-read-put-dec Inv-loop μ-loop
 array-read-put-dec c = omega arith
 
 put-dec-requires : tie.Need-put-dec-requires Inv-loop μ-loop
-put-dec-requires c κs = simp length-set (omega arith)
+put-dec-requires c κs = search needs
 
 add-i : tie.Need-add-i Inv-loop μ-loop
 add-i c = omega arith
@@ -46,11 +48,12 @@ loop-again : tie.Need-loop-again Inv-loop μ-loop
 loop-again c =
     let p = c .before .before .put-dec in
     let l = c .before .before .before .before .before .loop in
+    let d = puts-room (p .ensures .0) (p .ensures .1) (simp length-set (omega arith)) in
     let s = c .before .before .before .before .before .before .before in (
       omega arith,
       p .kept .0 ∙ (length-set (l .out) (l .k) 32 ∙ l .inv .1),
-      omega arith,
-      puts-field (l .i) (s .args .t3) (l .inv .3) (p .ensures .0) (omega arith) (omega arith) (omega arith),
+      omega (arith, d .place, p .ensures .1),
+      puts-field (l .i) (s .args .t3) (l .inv .3) d (omega arith) (omega arith) (omega arith),
     )
 
 same-length : tie.Need-same-length Inv-loop μ-loop

@@ -3,6 +3,7 @@
 use mathlib.Core.Path.{refl}
 use native.Mathlib.Omega.{arith}
 use borrow.Author.Needs.{needs}
+use Rattle.bytes.proofs.Fitting.{puts-at}
 use Rattle.listing.proofs.Lines.{end-rest, end-none}
 use Rattle.listing.proofs.put_last.Statement.{statement}
 use Rattle.listing.proofs.put_last.Tie as tie
@@ -36,8 +37,8 @@ same-length-2 c = search needs
 
 returns-2 : tie.Need-returns-2
 returns-2 c =
-    let p = c .before .before .put-bytes in
-    (rw (end-none _ _ (c .before .before .before .before .before .if1 .left)) (p .ensures), omega arith)
+    let p = puts-at (c .before .before .put-bytes .ensures) (omega arith) in
+    (rw (end-none _ _ (c .before .before .before .before .before .if1 .left)) p, omega (arith, p .place))
 
 pub put-last-spec : {M : Type 1} → statement M
 put-last-spec =

@@ -5,9 +5,9 @@ use Prim.Native.Nat.{_*_, _-_, _≤_}
 use native.Mathlib.Omega.{arith}
 use lib.ListN.{length, take, length-take, length-drop}
 use borrow.Author.Needs.{needs}
+use Rattle.bytes.specs.Writing.{Puts}
+use Rattle.bytes.proofs.Spliced.{length-puts, puts-none, puts-part}
 use Rattle.listing.specs.Lines.{eventLines, maxLine}
-use Rattle.listing.specs.Writing.{Puts}
-use Rattle.listing.proofs.Spliced.{length-puts, puts-none, puts-part}
 use Rattle.listing.proofs.Parts.{event-short, event-line}
 use Rattle.listing.proofs.Lines.{eventsOf, lines-none, puts-event, some-lines}
 use Rattle.listing.proofs.put_lines.Statement.{statement}

@@ -5,6 +5,7 @@ use native.Mathlib.Omega.{arith}
 use lib.ListN.{length-take}
 use lib.Seq.{length-take-le}
 use borrow.Author.Needs.{needs}
+use Rattle.bytes.proofs.Fitting.{puts-at}
 use Rattle.listing.proofs.put_word.Statement.{statement}
 use Rattle.listing.proofs.put_word.Tie as tie
 
@@ -15,15 +16,15 @@ slice-aggregate-put-bytes : tie.Need-slice-aggregate-put-bytes
 slice-aggregate-put-bytes c = sym (length-take-le _ _ (search needs))
 
 put-bytes-requires : tie.Need-put-bytes-requires
-put-bytes-requires c κs = simp length-take (omega arith)
+put-bytes-requires c κs = search needs
 
 same-length : tie.Need-same-length
 same-length c = search needs
 
 returns : tie.Need-returns
 returns c =
-    let p = c .before .before .put-bytes in
-    (p .ensures, omega (arith, simp length-take at (p .ensures .place)))
+    let p = puts-at (c .before .before .put-bytes .ensures) (simp length-take (omega arith)) in
+    (p, omega (arith, simp length-take at (p .place)))
 
 pub put-word-spec : {M : Type 1} → statement M
 put-word-spec =

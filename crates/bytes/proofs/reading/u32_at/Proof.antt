@@ -1,6 +1,8 @@
 -- `bytes::reading::u32_at` meets its contract, where its bytes stand there and where some are past the end.
 -- Assumes nothing.
+use mathlib.Core.Path.{sym, _∙_}
 use borrow.Author.Needs.{needs}
+use borrow.Author.Tests.{leb-true}
 use Rattle.bytes.proofs.reading.u32_at.Statement.{statement}
 use Rattle.bytes.proofs.reading.u32_at.Tie as tie
 
@@ -8,7 +10,7 @@ holds-requires : tie.Need-holds-requires
 holds-requires c κs = search needs
 
 quad-requires : tie.Need-quad-requires
-quad-requires c κs = c .before .holds .ensures (c .if1 .taken)
+quad-requires c κs = leb-true _ _ (sym (c .before .holds .ensures) ∙ c .if1 .taken)
 
 cast-result : tie.Need-cast-result
 cast-result c = search needs

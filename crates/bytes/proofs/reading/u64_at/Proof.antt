@@ -1,8 +1,11 @@
 -- `bytes::reading::u64_at` meets its contract: by its halves where its bytes stand there, else byte by byte.
 -- Assumes nothing.
-use mathlib.Core.Path.{sym}
+use mathlib.Core.Path.{sym, _∙_}
+use Prim.Native.Nat.{_+_}
 use native.Mathlib.Omega.{arith}
+use lib.ListN.{length}
 use borrow.Author.Needs.{needs}
+use borrow.Author.Tests.{leb-true}
 use Rattle.bytes.proofs.Numbers.{word-eight}
 use Rattle.bytes.proofs.reading.u64_at.Statement.{statement}
 use Rattle.bytes.proofs.reading.u64_at.Tie as tie
@@ -11,13 +14,13 @@ holds-requires : tie.Need-holds-requires
 holds-requires c κs = search needs
 
 quad-requires : tie.Need-quad-requires
-quad-requires c κs = omega (arith, c .before .holds .ensures (c .if1 .taken))
+quad-requires c κs = let a = c .before .before .before .args in omega (arith, leb-true (a .at + 8) (length (a .rec .now)) (sym (c .before .holds .ensures) ∙ c .if1 .taken))
 
 add-quad : tie.Need-add-quad
-add-quad c = let within = c .before .before .holds .ensures (c .before .if1 .taken) in omega arith
+add-quad c = let a = c .before .before .before .before .args in omega (arith, leb-true (a .at + 8) (length (a .rec .now)) (sym (c .before .before .holds .ensures) ∙ c .before .if1 .taken))
 
 quad-requires-2 : tie.Need-quad-requires-2
-quad-requires-2 c κs = omega (arith, c .before .before .holds .ensures (c .before .if1 .taken))
+quad-requires-2 c κs = let a = c .before .before .before .before .args in omega (arith, leb-true (a .at + 8) (length (a .rec .now)) (sym (c .before .before .holds .ensures) ∙ c .before .if1 .taken))
 
 mul-result : tie.Need-mul-result
 mul-result c = search needs

@@ -7,7 +7,7 @@ use lib.ListN.{length}
 use borrow.Author.Needs.{needs}
 use borrow.Author.Tests.{eq-eqb, ne-eqb}
 use Rattle.listing.specs.Lines.{maxRecord}
-use Rattle.listing.specs.Writing.{Writes}
+use Rattle.bytes.specs.Writing.{Writes}
 use Rattle.session_file.specs.Parts.{partAt}
 use Rattle.session_file.proofs.PartByPart.{nothing-put}
 use Rattle.session_file.proofs.parts.put_next.Statement.{statement}

@@ -8,9 +8,9 @@ use native.Mathlib.Omega.{arith}
 use borrow.Author.Tests.{lt-ltb, le-ltb}
 use lib.ListN.{length, set, length-append}
 use Rattle.laws.proofs.Tests.{lt-or-le}
-use Rattle.listing.specs.Lines.{digits, decimal, maxDigits}
-use Rattle.listing.specs.Writing.{Puts}
-use Rattle.listing.proofs.Spliced.{length-puts, puts-puts, puts-byte}
+use Rattle.bytes.specs.Decimal.{digits, decimal, maxDigits}
+use Rattle.bytes.specs.Writing.{Puts}
+use Rattle.bytes.proofs.Spliced.{length-puts, puts-puts, puts-byte}
 
 -- more room for digits changes nothing
 digits-enough : (k m x : ℕ) → x < k → x < m → digits k x ≡ digits m x
@@ -50,7 +50,7 @@ few-digits (suc k) x h =
     (λ (g : 10 ≤ x). omega (arith, length-more x g, few-digits k (x / 10) (omega arith)))
     (lt-or-le x 10)
 
-most-digits : (x : ℕ) → x < 2 ^ 64 → length (decimal x) ≤ maxDigits
+pub most-digits : (x : ℕ) → x < 2 ^ 64 → length (decimal x) ≤ maxDigits
 most-digits x h = few-digits 19 x (omega arith)
 
 -- a tenth of such a number has fewer

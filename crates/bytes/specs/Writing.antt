@@ -1,11 +1,11 @@
--- What a line writer answers, and what it leaves in its part.
+-- What a writer answers, and what it leaves in the bytes that it is lent.
 use mathlib.Core.Path.{_≡_}
 use mathlib.Core.Bool.{cond}
 use mathlib.Core.List.{List, _++_}
 use Prim.Native.Nat.{ℕ, _+_}
 use lib.Dec.{leb}
 use lib.ListN.{length, take, drop}
-use Rattle.listing.specs.declared.Written.{Written}
+use Rattle.bytes.specs.declared.writing.Written.{Written}
 
 -- a text written over a part, from a place on
 abbrev pub splice : (at : ℕ) (text part : List ℕ) → List ℕ
@@ -23,6 +23,11 @@ after text part = cond (leb (length text) (length part)) (splice 0 text part) pa
 pub record Writes (text : List ℕ) (r : Written) (before left : List ℕ) : Type 0 where
   pub answer : r ≡ written text before
   pub bytes : left ≡ after text before
+
+-- a text written at a place where it fits, and the place after it; else the part as it was, and the same place
+pub record PutAt (text : List ℕ) (at next : ℕ) (before left : List ℕ) : Type 0 where
+  pub place : next ≡ cond (leb (at + length text) (length before)) (at + length text) at
+  pub bytes : left ≡ cond (leb (at + length text) (length before)) (splice at text before) before
 
 -- on the way: a text written from a place on, and the next place
 pub record Puts (text : List ℕ) (at next : ℕ) (before left : List ℕ) : Type 0 where

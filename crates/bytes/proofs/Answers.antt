@@ -9,11 +9,12 @@ use native.Mathlib.Nat.{zero-add}
 use native.Mathlib.Omega.{arith}
 use lib.Dec.{leb}
 use lib.ListN.{length, take, drop, length-append}
-use lib.Seq.{take-all, take-at}
+use lib.Seq.{length-take-le, take-all, take-at}
 use borrow.Author.Tests.{leb-true, le-leb}
 use Rattle.laws.proofs.Tests.{tested}
-use Rattle.listing.specs.declared.Written.{Written}
-use Rattle.listing.specs.Writing.{written, after, Writes, Puts}
+use Rattle.bytes.specs.declared.writing.Written.{Written}
+use Rattle.bytes.specs.Writing.{written, after, Writes, PutAt, Puts}
+use Rattle.bytes.proofs.Fitting.{puts-at}
 
 -- the answer to a text of a length, in a part of so many bytes
 abbrev Answers : Written → ℕ → ℕ → Type 0
@@ -27,15 +28,18 @@ answer-small {a} {len} {room} is =
     (tested (leb len room))
 
 -- so many bytes of the text are what the writer is to leave
-pub wrote-text : {text : List ℕ} {a : Written} {r : ℕ} {e e′ : List ℕ} → Answers a (length text) (length e) → Puts (take (a .len) text) 0 r e e′ → Writes text a e e′
+pub wrote-text : {text : List ℕ} {a : Written} {r : ℕ} {e e′ : List ℕ} → Answers a (length text) (length e) → PutAt (take (a .len) text) 0 r e e′ → Writes text a e e′
 unfolding written after
-wrote-text {text} {a} {r} {e} {e′} is p = record {
-  answer = is;
-  bytes =
-      ⊎-elim (λ (t : leb (length text) (length e) ≡ true). rw t (rw (is, t, take-all (length text) text (omega arith)) at (p .bytes)))
-      (λ (t : leb (length text) (length e) ≡ false). rw t (rw (is, t) at (p .bytes)))
-      (tested (leb (length text) (length e)));
-}
+wrote-text {text} {a} {r} {e} {e′} is w =
+    let small = answer-small is in
+    let p = puts-at w (rw (zero-add, length-take-le (a .len) text (small .0)) (small .1)) in
+    record {
+      answer = is;
+      bytes =
+          ⊎-elim (λ (t : leb (length text) (length e) ≡ true). rw t (rw (is, t, take-all (length text) text (omega arith)) at (p .bytes)))
+          (λ (t : leb (length text) (length e) ≡ false). rw t (rw (is, t) at (p .bytes)))
+          (tested (leb (length text) (length e)));
+    }
 
 -- a text that was written at the start of a part is no longer than the part
 pub within : {text : List ℕ} {n : ℕ} {e e′ : List ℕ} → Puts text 0 n e e′ → n ≤ length e′

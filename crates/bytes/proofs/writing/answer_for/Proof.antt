@@ -1,8 +1,8 @@
--- `listing::answer_for` meets its contract, by its test.
+-- `bytes::writing::answer_for` meets its contract, by its test.
 -- Assumes nothing.
 use borrow.Author.Tests.{le-leb, lt-leb}
-use Rattle.listing.proofs.answer_for.Statement.{statement}
-use Rattle.listing.proofs.answer_for.Tie as tie
+use Rattle.bytes.proofs.writing.answer_for.Statement.{statement}
+use Rattle.bytes.proofs.writing.answer_for.Tie as tie
 
 returns : tie.Need-returns
 returns c = rw (lt-leb _ _ (c .if1 .taken))

@@ -1,14 +1,14 @@
--- `listing::put_bytes` meets its contract. The invariant: the first i bytes are written.
+-- `bytes::writing::copy_bytes` meets its contract. The invariant: the first i bytes are written.
 -- Assumes nothing.
 use mathlib.Core.Path.{_≡_, refl}
 use Prim.Native.Nat.{_+_, _-_, _≤_}
 use native.Mathlib.Omega.{arith}
 use lib.ListN.{length, take, length-set}
 use lib.Seq.{take-all}
-use Rattle.listing.specs.Writing.{Puts}
-use Rattle.listing.proofs.Spliced.{puts-start, puts-next}
-use Rattle.listing.proofs.put_bytes.Statement.{statement}
-use Rattle.listing.proofs.put_bytes.Tie as tie
+use Rattle.bytes.specs.Writing.{Puts}
+use Rattle.bytes.proofs.Spliced.{puts-start, puts-next}
+use Rattle.bytes.proofs.writing.copy_bytes.Statement.{statement}
+use Rattle.bytes.proofs.writing.copy_bytes.Tie as tie
 
 abbrev Inv-loop : tie.InvT-loop
 Inv-loop out₀ at bytes i₀ out i = (i ≤ length bytes) × (length out ≡ length out₀) × Puts (take i bytes) at (at + i) out₀ out
@@ -48,8 +48,8 @@ same-length c = c .before .loop .inv .1
 returns : tie.Need-returns Inv-loop μ-loop
 returns c = rw (take-all (c .before .loop .i) (c .before .before .args .bytes .now) (omega arith)) at (c .before .loop .inv .2)
 
-pub put-bytes-spec : {M : Type 1} → statement M
-put-bytes-spec =
+pub copy-bytes-spec : {M : Type 1} → statement M
+copy-bytes-spec =
     tie.close
     (tie.spec
     Inv-loop

@@ -1,12 +1,11 @@
--- `listing::put_text` meets its contract: by what the answer says, all of the text is copied or nothing.
+-- `bytes::writing::put_text` meets its contract: by what the answer says, all of the text is copied or nothing.
 -- Assumes nothing.
 use mathlib.Core.Path.{sym}
-use native.Mathlib.Nat.{zero-add}
 use lib.Seq.{length-take-le}
 use borrow.Author.Needs.{needs}
-use Rattle.listing.proofs.Answers.{answer-small, wrote-text}
-use Rattle.listing.proofs.put_text.Statement.{statement}
-use Rattle.listing.proofs.put_text.Tie as tie
+use Rattle.bytes.proofs.Answers.{answer-small, wrote-text}
+use Rattle.bytes.proofs.writing.put_text.Statement.{statement}
+use Rattle.bytes.proofs.writing.put_text.Tie as tie
 
 answer-for-requires : tie.Need-answer-for-requires
 answer-for-requires c κs = search needs
@@ -15,7 +14,7 @@ slice-aggregate-put-bytes : tie.Need-slice-aggregate-put-bytes
 slice-aggregate-put-bytes c = sym (length-take-le _ _ (answer-small (c .before .before .answer-for .ensures) .0))
 
 put-bytes-requires : tie.Need-put-bytes-requires
-put-bytes-requires c κs = rw (zero-add, length-take-le _ _ (answer-small (c .before .before .answer-for .ensures) .0)) (answer-small (c .before .before .answer-for .ensures) .1)
+put-bytes-requires c κs = search needs
 
 same-length : tie.Need-same-length
 same-length c = search needs
