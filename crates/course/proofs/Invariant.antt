@@ -19,7 +19,7 @@ use Rattle.auction_engine.specs.Matching.{crank, done, matched, phaseAfter, all
 use Rattle.auction_engine.specs.Rofr.{exerciseEffect, closeEffect}
 use Rattle.auction_engine.specs.Settlement.{settleEffect, skipEffect, finishEffect, expireEffect, movedVolume, printOf}
 use Rattle.auction_engine.specs.Engine.{refusal, effect}
-use Rattle.course.specs.Course.{Run, begin, note, advance, run}
+use Rattle.course.specs.Course.{Run, runOf, begin, note, advance, run}
 use Rattle.course.specs.Demand3.{after}
 use Rattle.course.proofs.Matching.{Allotted, Kept, lotCount, lots-few, cranked}
 use Rattle.course.proofs.Cranks.{crank-add, crank-grows, crank-phase, crank-settled, crank-skipped}
@@ -29,8 +29,7 @@ use Rattle.course.proofs.Accepted.{noted, Early, early-screen, early-cl
 
 -- a run that has only cranked: s with n fills
 abbrev cranking : Session → ℕ → Bool → Run
-cranking s n complete =
-    record { session = s; purchases = []; settled = []; skipped = []; skippedQty = 0; crankFills = n; prints = []; printedQty = 0; complete = complete }
+cranking s n complete = runOf s [] [] [] 0 n [] 0 complete
 
 -- Allocating: k fills were allowed
 pub record Matching (s₀ : Session) (r : Run) : Type 0 where

@@ -34,102 +34,37 @@ pub record Run : Type 0 where
   -- 'The matching is complete from the allocate that leaves phase 2 until an accepted expire'
   pub complete : Bool
 
+-- a run, by its parts
+abbrev pub runOf : Session → List Purchase → (settled skipped : List ℕ) (skippedQty crankFills : ℕ) → List Print → (printedQty : ℕ) (complete : Bool) → Run
+runOf s bs st sk sq n ps pq c =
+    record { session = s; purchases = bs; settled = st; skipped = sk; skippedQty = sq; crankFills = n; prints = ps; printedQty = pq; complete = c }
+
 -- nothing done yet
 abbrev pub begin : Session → Run
-begin s =
-    record { session = s; purchases = []; settled = []; skipped = []; skippedQty = 0; crankFills = 0; prints = []; printedQty = 0; complete = false }
+begin s = runOf s [] [] [] 0 0 [] 0 false
 
 abbrev pub withSession : Run → Session → Run
-withSession r s =
-    record {
-      session = s;
-      purchases = r .purchases;
-      settled = r .settled;
-      skipped = r .skipped;
-      skippedQty = r .skippedQty;
-      crankFills = r .crankFills;
-      prints = r .prints;
-      printedQty = r .printedQty;
-      complete = r .complete;
-    }
+withSession r s = runOf s (r .purchases) (r .settled) (r .skipped) (r .skippedQty) (r .crankFills) (r .prints) (r .printedQty) (r .complete)
 
 -- an accepted call that hands back s, noted
 unfoldable pub note : Run → Session → Call → Run
 note r s (screen now i side verdict hasId id) = withSession r s
 note r s (clear now) = withSession r s
 note r s (allocate now n) =
-    record {
-      session = s;
-      purchases = r .purchases;
-      settled = r .settled;
-      skipped = r .skipped;
-      skippedQty = r .skippedQty;
-      crankFills = r .crankFills + (s .«fill_count» - r .session .«fill_count»);
-      prints = r .prints;
-      printedQty = r .printedQty;
-      complete = r .complete || not (eqb (s .phase) allocating);
-    }
+    runOf s (r .purchases) (r .settled) (r .skipped) (r .skippedQty) (r .crankFills + (s .«fill_count» - r .session .«fill_count»))
+    (r .prints) (r .printedQty) (r .complete || not (eqb (s .phase) allocating))
 note r s (exercise now issuer i q) =
-    record {
-      session = s;
-      purchases = record { fill = i; qty = q } ∷ r .purchases;
-      settled = r .settled;
-      skipped = r .skipped;
-      skippedQty = r .skippedQty;
-      crankFills = r .crankFills;
-      prints = r .prints;
-      printedQty = r .printedQty;
-      complete = r .complete;
-    }
+    runOf s (record { fill = i; qty = q } ∷ r .purchases) (r .settled) (r .skipped) (r .skippedQty) (r .crankFills) (r .prints) (r .printedQty) (r .complete)
 note r s (close now caller) = withSession r s
 note r s (settle i) =
-    record {
-      session = s;
-      purchases = r .purchases;
-      settled = i ∷ r .settled;
-      skipped = r .skipped;
-      skippedQty = r .skippedQty;
-      crankFills = r .crankFills;
-      prints = r .prints;
-      printedQty = r .printedQty;
-      complete = r .complete;
-    }
+    runOf s (r .purchases) (i ∷ r .settled) (r .skipped) (r .skippedQty) (r .crankFills) (r .prints) (r .printedQty) (r .complete)
 note r s (skip now i reason) =
-    record {
-      session = s;
-      purchases = r .purchases;
-      settled = r .settled;
-      skipped = i ∷ r .skipped;
-      skippedQty = r .skippedQty + fillAt (r .session) i .qty;
-      crankFills = r .crankFills;
-      prints = r .prints;
-      printedQty = r .printedQty;
-      complete = r .complete;
-    }
+    runOf s (r .purchases) (r .settled) (i ∷ r .skipped) (r .skippedQty + fillAt (r .session) i .qty) (r .crankFills) (r .prints) (r .printedQty) (r .complete)
 note r s (finish now) =
-    record {
-      session = s;
-      purchases = r .purchases;
-      settled = r .settled;
-      skipped = r .skipped;
-      skippedQty = r .skippedQty;
-      crankFills = r .crankFills;
-      prints = printOf (r .session) ∷ r .prints;
-      printedQty = r .printedQty + movedVolume (r .session);
-      complete = r .complete;
-    }
+    runOf s (r .purchases) (r .settled) (r .skipped) (r .skippedQty) (r .crankFills)
+    (printOf (r .session) ∷ r .prints) (r .printedQty + movedVolume (r .session)) (r .complete)
 note r s (expire now) =
-    record {
-      session = s;
-      purchases = r .purchases;
-      settled = r .settled;
-      skipped = r .skipped;
-      skippedQty = r .skippedQty;
-      crankFills = r .crankFills;
-      prints = r .prints;
-      printedQty = r .printedQty;
-      complete = false;
-    }
+    runOf s (r .purchases) (r .settled) (r .skipped) (r .skippedQty) (r .crankFills) (r .prints) (r .printedQty) false
 
 -- 'each call gets the session that the one before it handed back'; a refused call leaves all as it was
 unfoldable pub advance : Run → Call → Run
