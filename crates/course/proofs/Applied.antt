@@ -7,7 +7,7 @@ use Rattle.laws.specs.Checks.{_then_}
 use Rattle.events.specs.Events.{packed}
 use Rattle.auction_engine.specs.declared.Session.{Session}
 use Rattle.auction_engine.specs.declared.CallRecord.{CallRecord}
-use Rattle.auction_engine.specs.Call.{Call, screen, clear, allocate, exercise, close, settle, skip, finish, expire, limitsRefusal}
+use Rattle.auction_engine.specs.Call.{Call, screen, clear, allocate, exercise, close, settle, skip, finish, expire, expireKind, limitsRefusal}
 use Rattle.auction_engine.specs.Engine.{refusal, effect, events, refusedBy, answer, callOf, applied}
 use Rattle.course.specs.Course.{Run, begin, note, advance, run}
 use Rattle.course.specs.Applied.{sessionAfter, applyAll, callsOf, RunIsAnswers, ApplyIsRun}
@@ -45,7 +45,7 @@ run-is-answers s calls = run-session (begin s) calls
 records-session : (s : Session) (records : List CallRecord) → applyAll s records ≡ sessionAfter s (callsOf records)
 unfolding applied
 records-session s [] = refl
-records-session s (r ∷ records) = go (leb (r .kind) 8) (records-session (answer s (callOf r) .session) records) (records-session s records)
+records-session s (r ∷ records) = go (leb (r .kind) expireKind) (records-session (answer s (callOf r) .session) records) (records-session s records)
   where
     go : (x : Bool) → applyAll (answer s (callOf r) .session) records ≡ sessionAfter (answer s (callOf r) .session) (callsOf records)
         → applyAll s records ≡ sessionAfter s (callsOf records)

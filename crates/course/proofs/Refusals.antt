@@ -18,7 +18,7 @@ use Rattle.book.specs.Claims.{ClearIsRight}
 use Rattle.book.specs.declared.clear.Outcome.{Outcome}
 use Rattle.book.proofs.Theorems.{clear-is-right}
 use Rattle.auction_engine.specs.declared.Session.{Session}
-use Rattle.auction_engine.specs.Call.{Call, screen, clear, allocate, exercise, close, settle, skip, finish, expire, limitsRefusal, fieldsRefusal, argumentsRefusal}
+use Rattle.auction_engine.specs.Call.{Call, screen, clear, allocate, exercise, close, settle, skip, finish, expire, expireKind, limitsRefusal, fieldsRefusal, argumentsRefusal}
 use Rattle.auction_engine.specs.Screening.{screenRefusal}
 use Rattle.auction_engine.specs.Clearing.{outcome, clearChecks, clearRefusal}
 use Rattle.auction_engine.specs.Matching.{allocateRefusal}
@@ -161,7 +161,7 @@ refused-by-its-row s c = subst (λ (n : ℕ). Member n (0 ∷ row c)) (sym (answ
 
 pub record-refused-by-its-row : RecordRefusedByItsRow
 unfolding applied
-record-refused-by-its-row s r = go (leb (r .kind) 8)
+record-refused-by-its-row s r = go (leb (r .kind) expireKind)
   where
     go : (x : Bool) → Member (cond x (answer s (callOf r)) (refusedBy s (limitsRefusal s then 4)) .refusal) (0 ∷ 9 ∷ 4 ∷ cond x (numbersOf (callOf r)) [])
     go true = refused-by-its-row s (callOf r)

@@ -5,7 +5,7 @@ use mathlib.Core.List.{List, [], _∷_}
 use lib.Dec.{leb}
 use Rattle.auction_engine.specs.declared.Session.{Session}
 use Rattle.auction_engine.specs.declared.CallRecord.{CallRecord}
-use Rattle.auction_engine.specs.Call.{Call}
+use Rattle.auction_engine.specs.Call.{Call, expireKind}
 use Rattle.auction_engine.specs.Engine.{answer, callOf, applied}
 use Rattle.course.specs.Course.{begin, run}
 
@@ -22,7 +22,7 @@ applyAll s (r ∷ records) = applyAll (applied s r .session) records
 -- the calls that they say; a kind above 8 says none
 abbrev pub callsOf : List CallRecord → List Call
 callsOf [] = []
-callsOf (r ∷ records) = cond (leb (r .kind) 8) (callOf r ∷ callsOf records) (callsOf records)
+callsOf (r ∷ records) = cond (leb (r .kind) expireKind) (callOf r ∷ callsOf records) (callsOf records)
 
 -- the session of a run is what the answers hand on
 abbrev pub RunIsAnswers : Type 0

@@ -6,7 +6,7 @@ use lib.Dec.{leb}
 use Rattle.laws.specs.Lists.{Member}
 use Rattle.auction_engine.specs.declared.Session.{Session}
 use Rattle.auction_engine.specs.declared.CallRecord.{CallRecord}
-use Rattle.auction_engine.specs.Call.{Call, screen, clear, allocate, exercise, close, settle, skip, finish, expire}
+use Rattle.auction_engine.specs.Call.{Call, screen, clear, allocate, exercise, close, settle, skip, finish, expire, expireKind}
 use Rattle.auction_engine.specs.Engine.{answer, callOf, applied}
 
 -- the numbers of a call's row, in the order of its checks
@@ -27,7 +27,7 @@ RefusedByItsRow = (s : Session) (c : Call) → Member (answer s c .refusal) (0 �
 
 -- the same of a call record; one of a kind above 8 has no row
 abbrev pub recordNumbers : CallRecord → List ℕ
-recordNumbers r = cond (leb (r .kind) 8) (numbersOf (callOf r)) []
+recordNumbers r = cond (leb (r .kind) expireKind) (numbersOf (callOf r)) []
 
 abbrev pub RecordRefusedByItsRow : Type 0
 RecordRefusedByItsRow = (s : Session) (r : CallRecord) → Member (applied s r .refusal) (0 ∷ 9 ∷ 4 ∷ recordNumbers r)

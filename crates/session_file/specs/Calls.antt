@@ -7,7 +7,7 @@ use Rattle.book.specs.Book.{noInvestor, noWallet}
 use Rattle.book.specs.declared.Params.{Params}
 use Rattle.book.specs.declared.Given.{Given}
 use Rattle.book.specs.declared.Row.{Row}
-use Rattle.auction_engine.specs.Call.{Call, screen, clear, allocate, exercise, close, settle, skip, finish, expire}
+use Rattle.auction_engine.specs.Call.{Call, screen, clear, allocate, exercise, close, settle, skip, finish, expire, screenKind, clearKind, allocateKind, exerciseKind, closeKind, settleKind, skipKind, finishKind, expireKind}
 use Rattle.auction_engine.specs.declared.CallRecord.{CallRecord}
 use Rattle.session_file.specs.declared.fields.Fields.{Fields}
 use Rattle.session_file.specs.Marks.{noKind, headerKind, orderKind, callKind}
@@ -37,15 +37,15 @@ blankCall kind now = filled kind now 0 0 0 false noInvestor 0 noWallet 0 0 0
 
 -- the record of a call: zeros in the places that its kind does not use
 abbrev pub recordOf : Call → CallRecord
-recordOf (screen now i side verdict hasId id) = filled 0 now i side verdict hasId id 0 noWallet 0 0 0
-recordOf (clear now) = blankCall 1 now
-recordOf (allocate now n) = filled 2 now 0 0 0 false noInvestor n noWallet 0 0 0
-recordOf (exercise now issuer i q) = filled 3 now 0 0 0 false noInvestor 0 issuer i q 0
-recordOf (close now caller) = filled 4 now 0 0 0 false noInvestor 0 caller 0 0 0
-recordOf (settle i) = filled 5 (pos 0) 0 0 0 false noInvestor 0 noWallet i 0 0
-recordOf (skip now i reason) = filled 6 now 0 0 0 false noInvestor 0 noWallet i 0 reason
-recordOf (finish now) = blankCall 7 now
-recordOf (expire now) = blankCall 8 now
+recordOf (screen now i side verdict hasId id) = filled screenKind now i side verdict hasId id 0 noWallet 0 0 0
+recordOf (clear now) = blankCall clearKind now
+recordOf (allocate now n) = filled allocateKind now 0 0 0 false noInvestor n noWallet 0 0 0
+recordOf (exercise now issuer i q) = filled exerciseKind now 0 0 0 false noInvestor 0 issuer i q 0
+recordOf (close now caller) = filled closeKind now 0 0 0 false noInvestor 0 caller 0 0 0
+recordOf (settle i) = filled settleKind (pos 0) 0 0 0 false noInvestor 0 noWallet i 0 0
+recordOf (skip now i reason) = filled skipKind now 0 0 0 false noInvestor 0 noWallet i 0 reason
+recordOf (finish now) = blankCall finishKind now
+recordOf (expire now) = blankCall expireKind now
 
 -- no call is of that kind
 abbrev pub noCall : CallRecord
