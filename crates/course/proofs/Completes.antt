@@ -25,6 +25,7 @@ use Rattle.course.proofs.Cranks.{crank-add, crank-phase, crank-params, 
 use Rattle.course.proofs.Checked.{limits-stand, fields-stand}
 use Rattle.course.proofs.Accepted.{noted, Early, early-screen, early-clear, exercised, at-close, settles, skips, at-finish}
 use Rattle.course.proofs.Enough.{enough, open-start, never-full}
+use Rattle.course.proofs.Applied.{advance-session}
 
 matched-open : (t : Session) → done t ≡ false → matched t ≡ t
 matched-open t e = rw e
@@ -36,27 +37,6 @@ matched-phase t e = rw e (go (same (t .params .«rofr_authority») noWallet))
     go : (x : Bool) → cond x settling issuerRofr ≢ allocating
     go true h = omega arith
     go false h = omega arith
-
--- the session after a call, the same for any run on the session before it
-note-session : (r : Run) (s : Session) (c : Call) → note r s c .session ≡ s
-unfolding note
-note-session r s (screen now i side verdict hasId id) = refl
-note-session r s (clear now) = refl
-note-session r s (allocate now n) = refl
-note-session r s (exercise now issuer i q) = refl
-note-session r s (close now caller) = refl
-note-session r s (settle i) = refl
-note-session r s (skip now i reason) = refl
-note-session r s (finish now) = refl
-note-session r s (expire now) = refl
-
-advance-session : (r : Run) (c : Call) → advance r c .session ≡ cond (eqb (refusal (r .session) c) 0) (effect (r .session) c) (r .session)
-unfolding advance
-advance-session r c = go (eqb (refusal (r .session) c) 0)
-  where
-    go : (x : Bool) → cond x (noted r c) r .session ≡ cond x (effect (r .session) c) (r .session)
-    go true = note-session r (effect (r .session) c) c
-    go false = refl
 
 module _ (s : Session) (A : Allotted s) where
   -- while the matching is open no allocate is refused
@@ -152,6 +132,7 @@ module _ (s : Session) (A : Allotted s) where
   run-on [] r k o x = rw add-zero o
   run-on (c ∷ l) r k o x =
       let w = neither (isExpire c && eqb (refusal (r .session) c) 0) (expires (advance (begin (r .session)) c .session) l) x in
+      -- the session after a call is the same for any run on the session before it
       let e : advance (begin (r .session)) c .session ≡ advance r c .session = advance-session (begin (r .session)) c ∙ sym (advance-session r c) in
       rw add-assoc at (run-on l (advance r c) (k + allowance c) (advance-on r c k o (w .0)) (subst (λ t. expires t l ≡ false) e (w .1)))
 

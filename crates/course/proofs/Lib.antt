@@ -12,9 +12,9 @@ pub mod Lotted
 pub mod Lots
 pub mod Start
 pub mod Enough
+pub mod Applied
 pub mod Completes
 pub mod Demand3
-pub mod Applied
 pub mod Passing
 pub mod CaseL
 pub mod Demand2
