@@ -17,12 +17,12 @@ use Rattle.laws.proofs.Tests.{tested}
 use Rattle.credit_math.specs.Limits.{maxOrders}
 use Rattle.book.specs.Limits.{maxFills}
 use Rattle.book.specs.Book.{noOrder, noFill}
-use Rattle.events.specs.Events.{few, packed}
+use Rattle.events.specs.Events.{eventPair, packed}
 use Rattle.book.specs.declared.Order.{Order}
 use Rattle.book.specs.declared.Fill.{Fill}
-use Rattle.events.specs.declared.Few.{Few}
+use Rattle.events.specs.declared.EventPair.{EventPair}
 use Rattle.events.specs.declared.Event.the-variants.{OrderScreened, FillSettled, PhaseChanged}
-use Rattle.events.proofs.Packed.{in-few}
+use Rattle.events.proofs.Packed.{in-pair}
 use Rattle.auction_engine.specs.declared.Session.{Session}
 use Rattle.auction_engine.specs.declared.CallRecord.{CallRecord}
 use Rattle.auction_engine.specs.declared.changes.Change.{Change}
@@ -32,7 +32,7 @@ use Rattle.auction_engine.specs.Screening.{exclusionOf, screenEffect, sc
 use Rattle.auction_engine.specs.Rofr.{closeEffect, closeEvents}
 use Rattle.auction_engine.specs.Settlement.{settleEffect, settleEvents, skipEffect, skipEvents, finishEffect, finishEvents, expireEffect, expireEvents}
 use Rattle.auction_engine.specs.Engine.{refusal, effect, events, refusedBy, answer, callOf, applied}
-use Rattle.auction_engine.specs.Changes.{writing, standing, unchanged, changeAt, early, changeOf, changeFor, changed, madeOf}
+use Rattle.auction_engine.specs.Changes.{writing, keeping, unchanged, changeAt, early, changeOf, changeFor, changed, madeOf}
 use Rattle.auction_engine.proofs.Answers.{refused-answer}
 use Rattle.auction_engine.proofs.Clears.{stops-early}
 use Rattle.auction_engine.proofs.Allocating.{allocate-number}
@@ -43,7 +43,7 @@ module _ (s : Session) (c : Call) (i : ℕ) (o : Order) (j : ℕ) (f : Fill) (m 
   pub refused-change : (r : Change) → r ≡ unchanged s m → m ≢ 0 → r ≡ changeAt s c i o j f
   refused-change r e z = rw (e, ← is, ne-eqb m 0 z)
 
-  pub accepted-change : (r : Change) → r ≡ writing (effect s c) false i o j f 0 (few (events s c)) → m ≡ 0 → r ≡ changeAt s c i o j f
+  pub accepted-change : (r : Change) → r ≡ writing (effect s c) false i o j f 0 (eventPair (events s c)) → m ≡ 0 → r ≡ changeAt s c i o j f
   accepted-change r e z = rw (e, ← is, eq-eqb m 0 z)
 
 -- ---- by the record's kind
@@ -57,21 +57,21 @@ module _ (r : CallRecord) (s : Session) where
   change-unknown h n is = rw (lt-leb (r .kind) 8 h) is
 
 -- ---- what stands there already, written, changes nothing
-kept : (s : Session) (n : ℕ) (es : Few) → changed s (standing s n es) ≡ s
+kept : (s : Session) (n : ℕ) (es : EventPair) → changed s (keeping s n es) ≡ s
 kept s n es = rw (set-getD (s .orders) 0 noOrder, set-getD (s .fills) 0 noFill)
 
 -- ---- a call that writes no more than its change, and says no more than two events
 abbrev Writes : Session → Call → (i : ℕ) → Order → (j : ℕ) → Fill → Type 0
-Writes s c i o j f = (changed s (writing (effect s c) false i o j f 0 (few (events s c))) ≡ effect s c) × (length (events s c) ≤ 2)
+Writes s c i o j f = (changed s (writing (effect s c) false i o j f 0 (eventPair (events s c))) ≡ effect s c) × (length (events s c) ≤ 2)
 
 made-at : (s : Session) (c : Call) (i : ℕ) (o : Order) (j : ℕ) (f : Fill) → Writes s c i o j f → madeOf s (changeAt s c i o j f) ≡ answer s c
 unfolding answer
 made-at s c i o j f w = go (eqb (refusal s c) 0)
   where
-    go : (t : Bool) → madeOf s (cond t (writing (effect s c) false i o j f 0 (few (events s c))) (unchanged s (refusal s c)))
+    go : (t : Bool) → madeOf s (cond t (writing (effect s c) false i o j f 0 (eventPair (events s c))) (unchanged s (refusal s c)))
         ≡ cond t (record { refusal = 0; session = effect s c; events = packed (events s c) }) (refusedBy s (refusal s c))
-    go true = rw (w .0, in-few (events s c) (w .1))
-    go false = rw (kept s (refusal s c) (few []))
+    go true = rw (w .0, in-pair (events s c) (w .1))
+    go false = rw (kept s (refusal s c) (eventPair []))
 
 -- ---- a clear, an allocate, an exercise: undecided where the test t holds, else refused by m
 module _ (s : Session) (t : Bool) (m : ℕ) (r : Change) where
@@ -151,7 +151,7 @@ module _ (s : Session) where
       go : (t : Bool) → cond t (changeOf s (callOf r)) (unchanged s (limitsRefusal s then 4)) .undecided ≡ false
           → madeOf s (cond t (changeOf s (callOf r)) (unchanged s (limitsRefusal s then 4))) ≡ cond t (answer s (callOf r)) (refusedBy s (limitsRefusal s then 4))
       go true h = made-call (callOf r) h
-      go false h = rw (kept s (limitsRefusal s then 4) (few []))
+      go false h = rw (kept s (limitsRefusal s then 4) (eventPair []))
 
 -- ---- the places are among those of the arrays
 abbrev Placed : Change → Type 0
@@ -190,7 +190,7 @@ module _ (s : Session) where
   unrefused-at : (c : Call) (i : ℕ) (o : Order) (j : ℕ) (f : Fill) → changeAt s c i o j f .undecided ≡ false
   unrefused-at c i o j f = go (eqb (refusal s c) 0)
     where
-      go : (t : Bool) → cond t (writing (effect s c) false i o j f 0 (few (events s c))) (unchanged s (refusal s c)) .undecided ≡ false
+      go : (t : Bool) → cond t (writing (effect s c) false i o j f 0 (eventPair (events s c))) (unchanged s (refusal s c)) .undecided ≡ false
       go true = refl
       go false = refl
 

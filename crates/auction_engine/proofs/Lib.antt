@@ -5,8 +5,8 @@ pub mod Answers
 pub mod Places
 pub mod Lots
 pub mod Clears
-pub mod Cranks
-pub mod Turns
+pub mod Fills
+pub mod FillLoop
 pub mod Allocating
 pub mod Purchases
 pub mod Prints

@@ -19,7 +19,7 @@ use Rattle.book.specs.Limits.{maxFills}
 use Rattle.book.specs.Book.{noFill, listed}
 use Rattle.book.specs.declared.Row.{Row}
 use Rattle.auction_engine.specs.declared.Session.{Session}
-use Rattle.events.specs.Events.{few}
+use Rattle.events.specs.Events.{eventPair}
 use Rattle.events.specs.declared.Event.the-variants.{Ordered}
 use Rattle.auction_engine.specs.Session.{orderAt, fillAt}
 use Rattle.auction_engine.specs.Opening.{orderRefusal, withOrder}
@@ -65,7 +65,7 @@ module _ (s : Session) (row : Row) where
     unfolding orderChange
     order-refused e z = rw (e, ← is, ne-eqb m 0 z)
 
-    pub order-taken : r ≡ writing (withOrder s row) false (s .«order_count») (listed row) 0 (fillAt s 0) 0 (few (Ordered (s .«order_count») ∷ [])) → m ≡ 0
+    pub order-taken : r ≡ writing (withOrder s row) false (s .«order_count») (listed row) 0 (fillAt s 0) 0 (eventPair (Ordered (s .«order_count») ∷ [])) → m ≡ 0
         → r ≡ orderChange s row
     unfolding orderChange
     order-taken e z = rw (e, ← is, eq-eqb m 0 z)

@@ -12,9 +12,9 @@ use Rattle.book.specs.Book.{listed}
 use Rattle.book.specs.declared.Order.{Order}
 use Rattle.book.specs.declared.Fill.{Fill}
 use Rattle.book.specs.declared.Row.{Row}
-use Rattle.events.specs.Events.{few, inFew, packed}
+use Rattle.events.specs.Events.{eventPair, pairEvents, packed}
 use Rattle.events.specs.declared.Event.the-variants.{Ordered}
-use Rattle.events.specs.declared.Few.{Few}
+use Rattle.events.specs.declared.EventPair.{EventPair}
 use Rattle.auction_engine.specs.declared.Session.{Session}
 use Rattle.auction_engine.specs.declared.Answer.{Answer}
 use Rattle.auction_engine.specs.declared.CallRecord.{CallRecord}
@@ -33,7 +33,7 @@ abbrev pub placeOf : (places i : ℕ) → ℕ
 placeOf places i = cond (ltb i places) i 0
 
 -- the numbers of a session t, order o at place i, fill f at place j, and what is said
-abbrev pub writing : Session → (undecided : Bool) (i : ℕ) → Order → (j : ℕ) → Fill → (refusal : ℕ) → Few → Change
+abbrev pub writing : Session → (undecided : Bool) (i : ℕ) → Order → (j : ℕ) → Fill → (refusal : ℕ) → EventPair → Change
 writing t undecided i o j f refusal es =
     record {
       undecided = undecided;
@@ -50,20 +50,20 @@ writing t undecided i o j f refusal es =
     }
 
 -- nothing is written that does not stand already at the first order and the first fill
-abbrev pub standing : Session → (refusal : ℕ) → Few → Change
-standing s refusal es = writing s false 0 (orderAt s 0) 0 (fillAt s 0) refusal es
+abbrev pub keeping : Session → (refusal : ℕ) → EventPair → Change
+keeping s refusal es = writing s false 0 (orderAt s 0) 0 (fillAt s 0) refusal es
 
 -- nothing is changed, with that refusal
 abbrev pub unchanged : Session → (refusal : ℕ) → Change
-unchanged s refusal = standing s refusal (few [])
+unchanged s refusal = keeping s refusal (eventPair [])
 
 -- a call that changes more: refused by that number, or undecided where it is 0
 abbrev pub early : Session → (refusal : ℕ) → Change
-early s refusal = writing s (eqb refusal 0) 0 (orderAt s 0) 0 (fillAt s 0) refusal (few [])
+early s refusal = writing s (eqb refusal 0) 0 (orderAt s 0) 0 (fillAt s 0) refusal (eventPair [])
 
 -- a call whose effect writes order o at place i and fill f at place j, and some numbers
 abbrev pub changeAt : Session → Call → (i : ℕ) → Order → (j : ℕ) → Fill → Change
-changeAt s c i o j f = cond (eqb (refusal s c) 0) (writing (effect s c) false i o j f 0 (few (events s c))) (unchanged s (refusal s c))
+changeAt s c i o j f = cond (eqb (refusal s c) 0) (writing (effect s c) false i o j f 0 (eventPair (events s c))) (unchanged s (refusal s c))
 
 -- a call whose effect writes numbers alone
 abbrev pub changeOfPhase : Session → Call → Change
@@ -89,7 +89,7 @@ changeFor s r = cond (leb (r .kind) expireKind) (changeOf s (callOf r)) (unchang
 -- the change of an `OR` record: one order more, and its line
 unfoldable pub orderChange : Session → Row → Change
 orderChange s row =
-    cond (eqb (orderRefusal s row) 0) (writing (withOrder s row) false (s .«order_count») (listed row) 0 (fillAt s 0) 0 (few (Ordered (s .«order_count») ∷ [])))
+    cond (eqb (orderRefusal s row) 0) (writing (withOrder s row) false (s .«order_count») (listed row) 0 (fillAt s 0) 0 (eventPair (Ordered (s .«order_count») ∷ [])))
     (unchanged s (orderRefusal s row))
 
 -- what an order changes, or else a call record
@@ -104,4 +104,4 @@ changed s c =
 
 -- what a decided change is answered as
 abbrev pub madeOf : Session → Change → Answer
-madeOf s c = record { refusal = c .refusal; session = changed s c; events = packed (inFew (c .events)) }
+madeOf s c = record { refusal = c .refusal; session = changed s c; events = packed (pairEvents (c .events)) }

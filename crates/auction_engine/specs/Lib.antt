@@ -4,7 +4,7 @@ pub mod Call
 pub mod Screening
 pub mod Clearing
 pub mod Matching
-pub mod Cranks
+pub mod NextFill
 pub mod Rofr
 pub mod Settlement
 pub mod Engine

@@ -63,9 +63,9 @@ unfoldable pub one : Session → Session
 one s = cond (due s) (pair s (buyAt s) (sellAt s) (dueQty s)) s
 
 -- at most n fills
-unfoldable pub crank : ℕ → Session → Session
-crank zero s = s
-crank (suc n) s = crank n (one s)
+unfoldable pub afterFills : ℕ → Session → Session
+afterFills zero s = s
+afterFills (suc n) s = afterFills n (one s)
 
 -- 'a fill due with 24 held, the call's own counted', within n fills
 unfoldable pub overfull : ℕ → Session → Bool
@@ -92,7 +92,7 @@ abbrev pub matched : Session → Session
 matched s = cond (done s) (atPhase s (phaseAfter s)) s
 
 unfoldable pub allocateEffect : Session → (n : ℕ) → Session
-allocateEffect s n = matched (crank n s)
+allocateEffect s n = matched (afterFills n s)
 
 -- `fill K B S QTY` for each of at most n fills
 unfoldable pub fillEvents : ℕ → Session → List Event
@@ -101,4 +101,4 @@ fillEvents (suc n) s = cond (due s) (FillAllocated (s .«fill_count») (buyAt s)
 
 -- the fills, then the change of phase where every lot is paired
 unfoldable pub allocateEvents : Session → (n : ℕ) → List Event
-allocateEvents s n = fillEvents n s ++ cond (done (crank n s)) (PhaseChanged (s .phase) (phaseAfter s) ∷ []) []
+allocateEvents s n = fillEvents n s ++ cond (done (afterFills n s)) (PhaseChanged (s .phase) (phaseAfter s) ∷ []) []

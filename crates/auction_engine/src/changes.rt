@@ -3,7 +3,7 @@ ghost use mathlib.Core.Path.{_≡_};
 ghost use mathlib.Core.List.{[]};
 ghost use lib.ListN.{set};
 ghost use Rattle.auction_engine.specs.Session.{atPhase};
-ghost use Rattle.auction_engine.specs.Changes.{standing, unchanged, early, recordChange, changed, madeOf};
+ghost use Rattle.auction_engine.specs.Changes.{keeping, unchanged, early, recordChange, changed, madeOf};
 use crate::Answer;
 use crate::CallRecord;
 use crate::Session;
@@ -11,7 +11,7 @@ use crate::opening;
 use book::Fill;
 use book::Order;
 use book::Row;
-use events::Few;
+use events::EventPair;
 
 pub struct Change {
     // A clear, an allocate or an exercise that neither its phase nor its window refuses: only `apply` has its answer.
@@ -26,7 +26,7 @@ pub struct Change {
     pub order_count: usize,
     pub fill_at: usize,
     pub fill: Fill,
-    pub events: Few,
+    pub events: EventPair,
 }
 
 impl Session {
@@ -74,14 +74,14 @@ impl Session {
     pub fn unchanged(self, refusal: u8) -> Change
         ensures { λ r. ⌜ r ≡ unchanged self refusal ⌝ }
     {
-        let mut c = self.standing(Few::none());
+        let mut c = self.keeping(EventPair::none());
         c.refusal = refusal;
         c
     }
 
     // What stands at the first order and the first fill, and what is said.
-    pub(crate) fn standing(self, events: Few) -> Change
-        ensures { λ r. ⌜ r ≡ standing self 0 events ⌝ }
+    pub(crate) fn keeping(self, events: EventPair) -> Change
+        ensures { λ r. ⌜ r ≡ keeping self 0 events ⌝ }
     {
         let orders = self.orders;
         let fills = self.fills;
@@ -103,10 +103,10 @@ impl Session {
     }
 
     // Another phase.
-    pub(crate) fn phase_change(self, to: u8, events: Few) -> Change
-        ensures { λ r. ⌜ r ≡ standing (atPhase self to) 0 events ⌝ }
+    pub(crate) fn phase_change(self, to: u8, events: EventPair) -> Change
+        ensures { λ r. ⌜ r ≡ keeping (atPhase self to) 0 events ⌝ }
     {
-        let mut c = self.standing(events);
+        let mut c = self.keeping(events);
         c.phase = to;
         c
     }

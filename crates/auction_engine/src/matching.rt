@@ -12,7 +12,7 @@ ghost use Rattle.events.specs.Events.{lineOf};
 ghost use Rattle.events.specs.declared.Event.the-variants.{FillAllocated};
 ghost use Rattle.auction_engine.specs.Call as call;
 ghost use Rattle.auction_engine.specs.Matching.{allocateChecks, lessLeft, dueOn, fillOf, phaseAfter};
-ghost use Rattle.auction_engine.specs.Cranks.{nextPair, turned};
+ghost use Rattle.auction_engine.specs.NextFill.{nextPair, filledBy};
 ghost use Rattle.auction_engine.specs.Engine.{answer};
 ghost use Rattle.auction_engine.specs.Changes.{early};
 use crate::Answer;
@@ -36,7 +36,7 @@ impl Session {
         if refusal != 0 {
             return Answer::refused(self, refusal);
         }
-        let mut r = self.turned(max_fills);
+        let mut r = self.filled_by(max_fills);
         if r.refusal != 0 {
             return r;
         }
@@ -78,9 +78,9 @@ impl Session {
     }
 
     // At most n fills, each written in place: a session is too large to copy for each. 18 where one more is due and no place free.
-    fn turned(self, n: u8) -> Answer
+    fn filled_by(self, n: u8) -> Answer
         requires { ⌜ (self .«order_count» ≤ maxOrders) × (self .«fill_count» ≤ maxFills) ⌝ }
-        ensures { λ r. ⌜ r ≡ turned self n ⌝ }
+        ensures { λ r. ⌜ r ≡ filledBy self n ⌝ }
     {
         let mut session = self;
         let mut events = Events::none();

@@ -20,7 +20,7 @@ use book::Order;
 use book::Params;
 use book::Row;
 use events::Event;
-use events::Few;
+use events::EventPair;
 use laws::checks::both;
 use laws::checks::either;
 use laws::checks::first_of;
@@ -142,6 +142,6 @@ pub fn order_change(s: Session, row: Row) -> Change
     c.order_at = at;
     c.order = Order::listed(row);
     c.order_count = at + 1;
-    c.events = Few::one(Event::Ordered(at as u64));
+    c.events = EventPair::one(Event::Ordered(at as u64));
     c
 }

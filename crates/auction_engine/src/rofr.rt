@@ -17,8 +17,8 @@ use crate::Session;
 use crate::changes::Change;
 use book::Fill;
 use events::Event;
+use events::EventPair;
 use events::Events;
-use events::Few;
 use laws::checks::both;
 use laws::checks::either;
 use laws::checks::first_of;
@@ -168,7 +168,7 @@ impl Session {
             from: self.phase,
             to: crate::SETTLING,
         };
-        self.phase_change(crate::SETTLING, Few::two(closed, moved))
+        self.phase_change(crate::SETTLING, EventPair::two(closed, moved))
     }
 
     fn close_refusal(self, now: i64, caller: [u8; 32]) -> u8

@@ -7,10 +7,10 @@ ghost use Rattle.laws.specs.Lists.{same};
 ghost use Rattle.laws.specs.Checks.{unless, _then_};
 ghost use Rattle.credit_math.specs.Limits.{maxOrders};
 ghost use Rattle.book.specs.Book.{noInvestor};
-ghost use Rattle.events.specs.Events.{few};
+ghost use Rattle.events.specs.Events.{eventPair};
 ghost use Rattle.auction_engine.specs.Session.{orderAt};
 ghost use Rattle.auction_engine.specs.Screening.{exclusionOf, screenedAs, screenLines};
-ghost use Rattle.auction_engine.specs.Engine.{refusal, answer};
+ghost use Rattle.auction_engine.specs.Engine.{answer};
 ghost use Rattle.auction_engine.specs.Changes.{placeOf, changeOf};
 ghost use Rattle.auction_engine.specs.Call as call;
 ghost use Rattle.auction_engine.specs.Call.{screenKind, admits, inWindow};
@@ -19,7 +19,7 @@ use crate::Session;
 use crate::changes::Change;
 use book::Order;
 use events::Event;
-use events::Few;
+use events::EventPair;
 use laws::checks::both;
 use laws::checks::either;
 use laws::checks::first_of;
@@ -68,7 +68,7 @@ impl Session {
             return self.unchanged(refusal);
         }
         let exclusion = self.exclusion_of(i, verdict, has_id, id);
-        let mut c = self.standing(screen_events(self.phase, order, exclusion));
+        let mut c = self.keeping(screen_events(self.phase, order, exclusion));
         c.phase = crate::CLEARING;
         c.order_at = i;
         c.order = as_screened(o, exclusion, has_id, id);
@@ -169,16 +169,16 @@ fn as_screened(o: Order, exclusion: u8, has_id: bool, id: [u8; 16]) -> Order
 }
 
 // The change of phase on the first screen, then the screen.
-fn screen_events(from: u8, order: u8, exclusion: u8) -> Few
-    ensures { λ r. ⌜ r ≡ few (screenLines from order exclusion) ⌝ }
+fn screen_events(from: u8, order: u8, exclusion: u8) -> EventPair
+    ensures { λ r. ⌜ r ≡ eventPair (screenLines from order exclusion) ⌝ }
 {
     let screened = Event::OrderScreened { order, exclusion };
     if from == crate::CLEARING {
-        return Few::one(screened);
+        return EventPair::one(screened);
     }
     let moved = Event::PhaseChanged {
         from,
         to: crate::CLEARING,
     };
-    Few::two(moved, screened)
+    EventPair::two(moved, screened)
 }

@@ -12,7 +12,7 @@ ghost use Rattle.laws.specs.Checks.{unless, _then_};
 ghost use Rattle.book.specs.Limits.{maxFills};
 ghost use Rattle.book.specs.Book.{fillIn};
 ghost use Rattle.disclosure.specs.Disclosure.{maxBand};
-ghost use Rattle.events.specs.Events.{few};
+ghost use Rattle.events.specs.Events.{eventPair};
 ghost use Rattle.events.specs.declared.Event.the-variants.{FillSettled};
 ghost use Rattle.auction_engine.specs.Session.{orderAt, fillAt};
 ghost use Rattle.auction_engine.specs.Call as call;
@@ -24,7 +24,7 @@ use crate::Session;
 use crate::changes::Change;
 use book::Fill;
 use events::Event;
-use events::Few;
+use events::EventPair;
 use events::Print;
 use laws::checks::first_of;
 use laws::checks::unless;
@@ -86,12 +86,12 @@ impl Session {
     }
 
     // A fill at a place, settled.
-    fn fill_change(self, at: usize, f: Fill, events: Few) -> Change
+    fn fill_change(self, at: usize, f: Fill, events: EventPair) -> Change
         ensures { λ r. ⌜ r ≡ writing self false 0 (orderAt self 0) at (asSettled f) 0 events ⌝ }
     {
         let mut settled = f;
         settled.settled = true;
-        let mut c = self.standing(events);
+        let mut c = self.keeping(events);
         c.fill_at = at;
         c.fill = settled;
         c
@@ -129,7 +129,7 @@ impl Session {
             qty: f.qty,
             reason,
         };
-        let mut c = self.fill_change(at, f, Few::one(skipped));
+        let mut c = self.fill_change(at, f, EventPair::one(skipped));
         c.skipped_fills = with_bit(self.skipped_fills, fill);
         c
     }
@@ -154,7 +154,7 @@ impl Session {
             from: self.phase,
             to: crate::PRINTED,
         };
-        self.phase_change(crate::PRINTED, Few::two(print, moved))
+        self.phase_change(crate::PRINTED, EventPair::two(print, moved))
     }
 
     fn finish_refusal(self, now: i64) -> u8
@@ -224,7 +224,7 @@ impl Session {
             from: self.phase,
             to: crate::FAILED,
         };
-        self.phase_change(crate::FAILED, Few::two(failed, moved))
+        self.phase_change(crate::FAILED, EventPair::two(failed, moved))
     }
 
     fn expire_refusal(self, now: i64) -> u8
@@ -248,13 +248,13 @@ impl Session {
 }
 
 // Nothing is said of a fill that the issuer took whole.
-fn settle_events(f: Fill, fill: u32, price: u64) -> Few
-    ensures { λ r. ⌜ r ≡ few (cond (eqb (f .qty) 0) [] (FillSettled fill (f .qty) price ∷ [])) ⌝ }
+fn settle_events(f: Fill, fill: u32, price: u64) -> EventPair
+    ensures { λ r. ⌜ r ≡ eventPair (cond (eqb (f .qty) 0) [] (FillSettled fill (f .qty) price ∷ [])) ⌝ }
 {
     if f.qty == 0 {
-        return Few::none();
+        return EventPair::none();
     }
-    Few::one(Event::FillSettled {
+    EventPair::one(Event::FillSettled {
         fill,
         qty: f.qty,
         price,

@@ -80,7 +80,7 @@ fn show(input: &[u8], too_long: bool) {
         if !put(&out[..len]) {
             return;
         }
-        s = part.standing;
+        s = part.cursor;
     }
 }
 

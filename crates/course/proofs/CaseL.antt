@@ -20,14 +20,14 @@ use Rattle.auction_engine.specs.Session.{rofrEnd, fresh}
 use Rattle.auction_engine.specs.Call.{admits, limitsRefusal, fieldsRefusal, argumentsRefusal, inWindow}
 use Rattle.auction_engine.specs.Screening.{screenRefusal, exclusionOf, screenEffect, screenEvents}
 use Rattle.auction_engine.specs.Clearing.{clearRefusal, withLots, clearedBy, clearLines}
-use Rattle.auction_engine.specs.Matching.{dueAt, due, pair, one, crank, overfull, allocateRefusal, done, phaseAfter, allocateEffect, fillEvents, allocateEvents}
+use Rattle.auction_engine.specs.Matching.{dueAt, due, pair, one, afterFills, overfull, allocateRefusal, done, phaseAfter, allocateEffect, fillEvents, allocateEvents}
 use Rattle.auction_engine.specs.Settlement.{settleRefusal, settleEffect, settleEvents, skipRefusal, skipEffect, skipEvents, movedVolume, finishRefusal, finishEffect, printOf, finishEvents}
 use Rattle.auction_engine.specs.Engine.{ownRefusal, refusal, effect, events}
 use Rattle.auction_engine.specs.Opening.{headerRefusal, orderRefusal, withOrder}
 use Rattle.course.specs.CaseL.{CaseL}
 
 pub case-l : CaseL
-unfolding sumBelow count sumOf first every some table keep same insert sort dedup lex unless _then_ bit withBit sumFits buy sell executed imbalance executes better candidates clearPrice priceRefusal findUniformClearPrice share shares residue precedes turns handOut prorata.lots isLive stored liveOrders searched tradesAt sideOrders sideLots allocations allotted floorOf computeClear isOther selfTrade cashOf investorExclusion contains moved firstOrder participant seen distinctParticipants width banded shown rofrEnd fresh admits limitsRefusal fieldsRefusal argumentsRefusal inWindow screenRefusal exclusionOf screenEffect screenEvents clearRefusal withLots clearedBy clearLines dueAt due pair one crank overfull allocateRefusal done phaseAfter allocateEffect fillEvents allocateEvents settleRefusal settleEffect settleEvents skipRefusal skipEffect skipEvents movedVolume finishRefusal finishEffect printOf finishEvents ownRefusal refusal effect events headerRefusal orderRefusal withOrder
+unfolding sumBelow count sumOf first every some table keep same insert sort dedup lex unless _then_ bit withBit sumFits buy sell executed imbalance executes better candidates clearPrice priceRefusal findUniformClearPrice share shares residue precedes turns handOut prorata.lots isLive stored liveOrders searched tradesAt sideOrders sideLots allocations allotted floorOf computeClear isOther selfTrade cashOf investorExclusion contains moved firstOrder participant seen distinctParticipants width banded shown rofrEnd fresh admits limitsRefusal fieldsRefusal argumentsRefusal inWindow screenRefusal exclusionOf screenEffect screenEvents clearRefusal withLots clearedBy clearLines dueAt due pair one afterFills overfull allocateRefusal done phaseAfter allocateEffect fillEvents allocateEvents settleRefusal settleEffect settleEvents skipRefusal skipEffect skipEvents movedVolume finishRefusal finishEffect printOf finishEvents ownRefusal refusal effect events headerRefusal orderRefusal withOrder
 case-l = record {
   header-accepted = refl;
   rows-accepted = (refl, (refl, (refl, (refl, tt))));

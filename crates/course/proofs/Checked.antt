@@ -31,9 +31,9 @@ known-sides s e i l =
 
 -- t has the orders' number, the parameters and the figures of s
 module _ (s t : Session) (n : t .«order_count» ≡ s .«order_count») (g : t .given ≡ s .given) where
-  pub limits-stand : t .params ≡ s .params → t .«fill_count» ≤ maxFills → limitsRefusal s ≡ 0 → limitsRefusal t ≡ 0
+  pub limits-kept : t .params ≡ s .params → t .«fill_count» ≤ maxFills → limitsRefusal s ≡ 0 → limitsRefusal t ≡ 0
   unfolding limitsRefusal
-  limits-stand p f e =
+  limits-kept p f e =
       let a = check-zero _ _ _ e in
       let b = check-zero _ _ _ (a .1) in
       let c = check-zero _ _ _ (b .1) in
@@ -44,9 +44,9 @@ module _ (s t : Session) (n : t .«order_count» ≡ s .«order_count») (g : t 
       (check-pass _ _ _ (rw (p, g) (d .0))
       (unless-pass _ _ (ap (λ (x : Params). sumFits (x .«reveal_end») (x .«rofr_window»)) p ∙ unless-zero _ _ (d .1))))))
 
-  pub fields-stand : t .phase ≤ 7 → ((i : ℕ) → i < s .«order_count» → orderAt t i .side ≡ orderAt s i .side) → fieldsRefusal s ≡ 0 → fieldsRefusal t ≡ 0
+  pub fields-kept : t .phase ≤ 7 → ((i : ℕ) → i < s .«order_count» → orderAt t i .side ≡ orderAt s i .side) → fieldsRefusal s ≡ 0 → fieldsRefusal t ≡ 0
   unfolding fieldsRefusal
-  fields-stand p sides e =
+  fields-kept p sides e =
       let b = check-zero _ _ _ (check-zero _ _ _ e .1) in
       check-pass _ _ _ (le-leb _ _ p)
       (check-pass _ _ _ (ap (λ (x : Given). leb (x .policy) 3) g ∙ b .0)

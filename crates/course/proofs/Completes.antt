@@ -16,13 +16,13 @@ use Rattle.book.specs.Book.{noWallet}
 use Rattle.auction_engine.specs.declared.Session.{Session}
 use Rattle.auction_engine.specs.Session.{allocating, issuerRofr, settling}
 use Rattle.auction_engine.specs.Call.{Call, screen, clear, allocate, exercise, close, settle, skip, finish, expire, admits, argumentsRefusal}
-use Rattle.auction_engine.specs.Matching.{crank, allocateRefusal, done, phaseAfter, matched, allocateEffect}
+use Rattle.auction_engine.specs.Matching.{afterFills, allocateRefusal, done, phaseAfter, matched, allocateEffect}
 use Rattle.auction_engine.specs.Engine.{ownRefusal, refusal, effect}
 use Rattle.course.specs.Course.{Run, begin, note, advance, run}
 use Rattle.course.specs.Demand3.{after, allowance, allowances, isExpire, expires}
-use Rattle.course.proofs.Matching.{Allotted, room, cranked}
-use Rattle.course.proofs.Cranks.{crank-add, crank-phase, crank-params, crank-given}
-use Rattle.course.proofs.Checked.{limits-stand, fields-stand}
+use Rattle.course.proofs.Matching.{Allotted, room, kept-by-fills}
+use Rattle.course.proofs.Fills.{after-fills-add, after-fills-phase, after-fills-params, after-fills-given}
+use Rattle.course.proofs.Checked.{limits-kept, fields-kept}
 use Rattle.course.proofs.Accepted.{noted, Early, early-screen, early-clear, exercised, at-close, settles, skips, at-finish}
 use Rattle.course.proofs.Enough.{enough, open-start, never-full}
 use Rattle.course.proofs.Applied.{advance-session}
@@ -40,26 +40,26 @@ matched-phase t e = rw e (go (same (t .params .«rofr_authority») noWallet))
 
 module _ (s : Session) (A : Allotted s) where
   -- while the matching is open no allocate is refused
-  never-refused : (k : ℕ) (now : ℤ) (n : ℕ) → refusal (crank k s) (allocate now n) ≡ 0
+  never-refused : (k : ℕ) (now : ℤ) (n : ℕ) → refusal (afterFills k s) (allocate now n) ≡ 0
   unfolding refusal argumentsRefusal ownRefusal allocateRefusal admits
   never-refused k now n =
-      let t = crank k s in
-      let C = cranked s A k in
-      let phase : t .phase ≡ allocating = crank-phase k s ∙ A .at in
-      then-both _ _ (limits-stand s t (C .kept .orders) (crank-given k s) (crank-params k s) (omega (arith, room s t A C)) (A .limits))
-      (then-both _ _ (fields-stand s t (C .kept .orders) (crank-given k s) (omega (arith, phase)) (λ i _. C .kept .side i) (A .fields))
+      let t = afterFills k s in
+      let C = kept-by-fills s A k in
+      let phase : t .phase ≡ allocating = after-fills-phase k s ∙ A .at in
+      then-both _ _ (limits-kept s t (C .kept .orders) (after-fills-given k s) (after-fills-params k s) (omega (arith, room s t A C)) (A .limits))
+      (then-both _ _ (fields-kept s t (C .kept .orders) (after-fills-given k s) (omega (arith, phase)) (λ i _. C .kept .side i) (A .fields))
       (then-both _ _ refl (check-pass _ _ _ (rw phase) (unless-pass _ _ (rw (never-full s A n t C))))))
 
   -- while the matching is open, the session is the start with k fills, k the allowances so far
   record Going (r : Run) (k : ℕ) : Type 0 where
-    is : r .session ≡ crank k s
-    unfinished : done (crank k s) ≡ false
+    is : r .session ≡ afterFills k s
+    unfinished : done (afterFills k s) ≡ false
 
   abbrev On : Run → ℕ → Type 0
   On r k = Going r k ⊎ (r .complete ≡ true)
 
   going-at : (r : Run) (k : ℕ) → Going r k → r .session .phase ≡ allocating
-  going-at r k G = ap (λ (t : Session). t .phase) (G .is) ∙ crank-phase k s ∙ A .at
+  going-at r k G = ap (λ (t : Session). t .phase) (G .is) ∙ after-fills-phase k s ∙ A .at
 
   going-late : (r : Run) (k : ℕ) → Going r k → Early (r .session .phase) → ⊥
   unfolding admits
@@ -70,15 +70,15 @@ module _ (s : Session) (A : Allotted s) where
   unfolding note effect allocateEffect
   goes-on r (screen now i side verdict hasId id) k G e x = absurd (going-late r k G (early-screen (r .session) now i side verdict hasId id e))
   goes-on r (clear now) k G e x = absurd (going-late r k G (early-clear (r .session) now e))
-  goes-on r (allocate now n) k G e x = go (done (crank (k + n) s)) refl
+  goes-on r (allocate now n) k G e x = go (done (afterFills (k + n) s)) refl
     where
-      w : crank n (r .session) ≡ crank (k + n) s
-      w = ap (crank n) (G .is) ∙ sym (crank-add k n s)
+      w : afterFills n (r .session) ≡ afterFills (k + n) s
+      w = ap (afterFills n) (G .is) ∙ sym (after-fills-add k n s)
 
-      go : (y : Bool) → done (crank (k + n) s) ≡ y → On (noted r (allocate now n)) (k + n)
-      go false d = inl (record { is = ap matched w ∙ matched-open (crank (k + n) s) d; unfinished = d })
+      go : (y : Bool) → done (afterFills (k + n) s) ≡ y → On (noted r (allocate now n)) (k + n)
+      go false d = inl (record { is = ap matched w ∙ matched-open (afterFills (k + n) s) d; unfinished = d })
       go true d =
-          let p : matched (crank n (r .session)) .phase ≢ allocating = rw w (matched-phase (crank (k + n) s) d) in
+          let p : matched (afterFills n (r .session)) .phase ≢ allocating = rw w (matched-phase (afterFills (k + n) s) d) in
           inr (ap (λ y. r .complete || not y) (ne-eqb _ allocating p) ∙ or-true (r .complete))
   goes-on r (exercise now issuer i q) k G e x = absurd (omega (arith, going-at r k G, exercised (r .session) now issuer i q e .at))
   goes-on r (close now caller) k G e x = absurd (omega (arith, going-at r k G, at-close (r .session) now caller e))
@@ -137,7 +137,7 @@ module _ (s : Session) (A : Allotted s) where
       rw add-assoc at (run-on l (advance r c) (k + allowance c) (advance-on r c k o (w .0)) (subst (λ t. expires t l ≡ false) e (w .1)))
 
   pub completes : (limit : ℕ) → s .«order_count» ≤ limit → (l : List Call) → limit ≤ suc (allowances l) → expires s l ≡ false → after s l .complete ≡ true
-  unfolding crank
+  unfolding afterFills
   completes limit h l m x = go (run-on l (begin s) 0 (inl start) x)
     where
       start : Going (begin s) 0

@@ -14,12 +14,12 @@ use Rattle.book.specs.declared.Fill.{Fill}
 use Rattle.auction_engine.specs.declared.Session.{Session}
 use Rattle.auction_engine.specs.Session.{orderAt, left, allocating}
 use Rattle.auction_engine.specs.Call.{Call}
-use Rattle.auction_engine.specs.Matching.{crank}
+use Rattle.auction_engine.specs.Matching.{afterFills}
 use Rattle.auction_engine.specs.Settlement.{printOf}
 use Rattle.course.specs.Course.{Run}
 use Rattle.course.specs.Demand3.{after, Finishes, Alike, sold}
 use Rattle.course.proofs.Matching.{Allotted, leftOn}
-use Rattle.course.proofs.Cranks.{done-left, same-end}
+use Rattle.course.proofs.Fills.{done-left, same-end}
 use Rattle.course.proofs.Purchases.{bought, bought-orders, bought-count}
 use Rattle.course.proofs.Marks.{Marked, marks-tell, moved-and-lost, marked-sold}
 use Rattle.course.proofs.Invariant.{Base, Settlement, Printed, Stage, in-matching, in-rofr, in-settling, in-print, in-failure, reached}
@@ -28,8 +28,8 @@ use Rattle.course.proofs.Invariant.{Base, Settlement, Printed, Stage, i
 module _ (s₀ b : Session) (r : Run) (B : Base s₀ b r) where
   none-left : (i : ℕ) → i < b .«order_count» → left b i ≡ 0
   none-left i l =
-      ap (λ t. left t i) (B .is) ∙ ap (λ l. getD l i noOrder .«alloc_left») (bought-orders (r .purchases) (crank (B .k) s₀))
-      ∙ done-left (crank (B .k) s₀) (B .full) i (omega (arith, ap (λ (t : Session). t .«order_count») (B .is), bought-count (r .purchases) (crank (B .k) s₀)))
+      ap (λ t. left t i) (B .is) ∙ ap (λ l. getD l i noOrder .«alloc_left») (bought-orders (r .purchases) (afterFills (B .k) s₀))
+      ∙ done-left (afterFills (B .k) s₀) (B .full) i (omega (arith, ap (λ (t : Session). t .«order_count») (B .is), bought-count (r .purchases) (afterFills (B .k) s₀)))
 
   base-sold : (i : ℕ) → i < s₀ .«order_count» → orderAt s₀ i .side ≡ sellSide → sold b (orderAt s₀ i .owner) ≡ orderAt s₀ i .alloc
   base-sold i l h = omega (arith, B .kept .sells i l h, none-left i (omega (arith, B .kept .orders)))

@@ -1,4 +1,4 @@
--- How many cranks complete a matching: until it is complete each makes a fill, so one less than the orders is enough. Assumes nothing.
+-- How many fills complete a matching: until it is complete each that is allowed is made, so one less than the orders is enough. Assumes nothing.
 use mathlib.Core.Path.{_≡_, refl, sym, ap, _∙_}
 use mathlib.Core.Bool.{Bool, true, false, _&&_, and-false, false≢true}
 use Prim.Native.Nat.{ℕ, zero, suc, _+_, _-_, _≤_, _<_}
@@ -16,9 +16,9 @@ use Rattle.book.specs.Book.{noOrder, buySide, sellSide}
 use Rattle.book.specs.declared.Order.{Order}
 use Rattle.auction_engine.specs.declared.Session.{Session}
 use Rattle.auction_engine.specs.Session.{orderAt, left}
-use Rattle.auction_engine.specs.Matching.{dueOn, dueAt, buyAt, sellAt, due, dueQty, pair, one, crank, overfull, done}
-use Rattle.course.proofs.Matching.{Allotted, Kept, Cranked, Fits, lotOn, leftOn, lots-few, room, orders-sum, due-at, due-count, one-due, one-idle, one-keeps, whole-on, cranked}
-use Rattle.course.proofs.Cranks.{crank-last, done-crank, done-left}
+use Rattle.auction_engine.specs.Matching.{dueOn, dueAt, buyAt, sellAt, due, dueQty, pair, one, afterFills, overfull, done}
+use Rattle.course.proofs.Matching.{Allotted, Kept, KeptByFills, Fits, lotOn, leftOn, lots-few, room, orders-sum, due-at, due-count, one-due, one-idle, one-keeps, whole-on, kept-by-fills}
+use Rattle.course.proofs.Fills.{after-fills-last, done-after-fills, done-left}
 
 -- what one side has left
 abbrev sideLeft : (side : ℕ) → Session → ℕ
@@ -93,38 +93,38 @@ idle-done s₀ t A K E e = go (ltb (buyAt t) (t .«order_count»)) (ltb (sellAt 
     go false y p q h = every-all _ (t .«order_count») (none (side-out t buySide (ltb-false _ _ p)))
 
 module _ (s : Session) (A : Allotted s) where
-  level : (k : ℕ) → Level (crank k s)
-  unfolding crank
+  level : (k : ℕ) → Level (afterFills k s)
+  unfolding afterFills
   level zero = whole-on s A buySide ∙ A .bought ∙ sym (A .given) ∙ sym (whole-on s A sellSide)
-  level (suc k) = rw (crank-last k s) (one-level s (crank k s) A (cranked s A k .kept) (level k))
+  level (suc k) = rw (after-fills-last k s) (one-level s (afterFills k s) A (kept-by-fills s A k .kept) (level k))
 
-  open-due : (k : ℕ) → done (crank k s) ≡ false → due (crank k s) ≡ true
-  open-due k e = go (due (crank k s)) refl
+  open-due : (k : ℕ) → done (afterFills k s) ≡ false → due (afterFills k s) ≡ true
+  open-due k e = go (due (afterFills k s)) refl
     where
-      go : (x : Bool) → due (crank k s) ≡ x → due (crank k s) ≡ true
+      go : (x : Bool) → due (afterFills k s) ≡ x → due (afterFills k s) ≡ true
       go true d = d
-      go false d = absurd (false≢true (sym e ∙ idle-done s (crank k s) A (cranked s A k .kept) (level k) d))
+      go false d = absurd (false≢true (sym e ∙ idle-done s (afterFills k s) A (kept-by-fills s A k .kept) (level k) d))
 
-  one-more : (k : ℕ) → done (crank k s) ≡ false → crank (suc k) s .«fill_count» ≡ crank k s .«fill_count» + 1
-  one-more k e = ap (λ (t : Session). t .«fill_count») (crank-last k s ∙ one-due (crank k s) (open-due k e)) ∙ due-count (crank k s) _ _ _
+  one-more : (k : ℕ) → done (afterFills k s) ≡ false → afterFills (suc k) s .«fill_count» ≡ afterFills k s .«fill_count» + 1
+  one-more k e = ap (λ (t : Session). t .«fill_count») (after-fills-last k s ∙ one-due (afterFills k s) (open-due k e)) ∙ due-count (afterFills k s) _ _ _
 
-  -- until the matching is complete each crank makes a fill
-  used : (k : ℕ) → done (crank k s) ≡ false → crank k s .«fill_count» ≡ k
-  unfolding crank
+  -- until the matching is complete each fill that is allowed is made
+  used : (k : ℕ) → done (afterFills k s) ≡ false → afterFills k s .«fill_count» ≡ k
+  unfolding afterFills
   used zero e = A .no-fill
-  used (suc k) e = go (done (crank k s)) refl (used k)
+  used (suc k) e = go (done (afterFills k s)) refl (used k)
     where
-      go : (x : Bool) → done (crank k s) ≡ x → (done (crank k s) ≡ false → crank k s .«fill_count» ≡ k) → crank (suc k) s .«fill_count» ≡ suc k
+      go : (x : Bool) → done (afterFills k s) ≡ x → (done (afterFills k s) ≡ false → afterFills k s .«fill_count» ≡ k) → afterFills (suc k) s .«fill_count» ≡ suc k
       go false d ih = omega (arith, one-more k d, ih d)
-      go true d ih = absurd (false≢true (sym e ∙ ap done (crank-last k s ∙ done-crank 1 (crank k s) d) ∙ d))
+      go true d ih = absurd (false≢true (sym e ∙ ap done (after-fills-last k s ∙ done-after-fills 1 (afterFills k s) d) ∙ d))
 
   -- one less than a number that the orders do not pass is enough
-  pub enough : (limit k : ℕ) → s .«order_count» ≤ limit → limit ≤ suc k → done (crank k s) ≡ true
-  enough limit k h l = go (done (crank k s)) refl
+  pub enough : (limit k : ℕ) → s .«order_count» ≤ limit → limit ≤ suc k → done (afterFills k s) ≡ true
+  enough limit k h l = go (done (afterFills k s)) refl
     where
-      go : (x : Bool) → done (crank k s) ≡ x → done (crank k s) ≡ true
+      go : (x : Bool) → done (afterFills k s) ≡ x → done (afterFills k s) ≡ true
       go true d = d
-      go false d = absurd (omega (arith, cranked s A (suc k) .bound, lots-few s, one-more k d, used k d))
+      go false d = absurd (omega (arith, kept-by-fills s A (suc k) .bound, lots-few s, one-more k d, used k d))
 
   -- at the start the matching is open
   pub open-start : done s ≡ false
@@ -143,7 +143,7 @@ module _ (s : Session) (A : Allotted s) where
           ))
 
 -- no fill is due with 24 held
-pub never-full : (s : Session) → Allotted s → (n : ℕ) (t : Session) → Cranked s t → overfull n t ≡ false
+pub never-full : (s : Session) → Allotted s → (n : ℕ) (t : Session) → KeptByFills s t → overfull n t ≡ false
 unfolding overfull
 never-full s A zero t C = refl
 never-full s A (suc n) t C = rw (lt-leb maxFills (t .«fill_count») (room s t A C), and-false (due t)) (never-full s A n (one t) (one-keeps s t A C))

@@ -15,14 +15,14 @@ use Rattle.book.specs.Book.{noWallet}
 use Rattle.auction_engine.specs.declared.Session.{Session}
 use Rattle.auction_engine.specs.Session.{fillAt, atPhase, allocating, issuerRofr, settling, printed, failed}
 use Rattle.auction_engine.specs.Call.{Call, screen, clear, allocate, exercise, close, settle, skip, finish, expire, admits}
-use Rattle.auction_engine.specs.Matching.{crank, done, matched, phaseAfter, allocateEffect}
+use Rattle.auction_engine.specs.Matching.{afterFills, done, matched, phaseAfter, allocateEffect}
 use Rattle.auction_engine.specs.Rofr.{exerciseEffect, closeEffect}
 use Rattle.auction_engine.specs.Settlement.{settleEffect, skipEffect, finishEffect, expireEffect, movedVolume, printOf}
 use Rattle.auction_engine.specs.Engine.{refusal, effect}
 use Rattle.course.specs.Course.{Run, runOf, begin, note, advance, run}
 use Rattle.course.specs.Demand3.{after}
-use Rattle.course.proofs.Matching.{Allotted, Kept, lotCount, lots-few, cranked}
-use Rattle.course.proofs.Cranks.{crank-add, crank-grows, crank-phase, crank-settled, crank-skipped}
+use Rattle.course.proofs.Matching.{Allotted, Kept, lotCount, lots-few, kept-by-fills}
+use Rattle.course.proofs.Fills.{after-fills-add, after-fills-grows, after-fills-phase, after-fills-settled, after-fills-skipped}
 use Rattle.course.proofs.Purchases.{bought, exercise-kept}
 use Rattle.course.proofs.Marks.{Marked, unmarked, settle-marked, skip-marked}
 use Rattle.course.proofs.Accepted.{noted, Early, early-screen, early-clear, at-allocate, Exercised, exercised, at-close, Unsettled, settles, skips, at-finish, at-expire}
@@ -35,16 +35,16 @@ cranking s n complete = runOf s [] [] [] 0 n [] 0 complete
 pub record Matching (s₀ : Session) (r : Run) : Type 0 where
   pub at : r .session .phase ≡ allocating
   pub k : ℕ
-  pub is : r ≡ cranking (crank k s₀) (crank k s₀ .«fill_count») false
+  pub is : r ≡ cranking (afterFills k s₀) (afterFills k s₀ .«fill_count») false
 
 -- b is the session in which the matching is complete and the purchases are made
 pub record Base (s₀ b : Session) (r : Run) : Type 0 where
   pub k : ℕ
-  pub full : done (crank k s₀) ≡ true
-  pub is : b ≡ bought (r .purchases) (crank k s₀)
+  pub full : done (afterFills k s₀) ≡ true
+  pub is : b ≡ bought (r .purchases) (afterFills k s₀)
   pub kept : Kept s₀ b
   pub few : b .«fill_count» ≤ maxFills
-  pub made : r .crankFills ≡ crank k s₀ .«fill_count»
+  pub made : r .crankFills ≡ afterFills k s₀ .«fill_count»
   pub none-settled : b .«fills_settled» ≡ 0
   pub none-skipped : b .«skipped_fills» ≡ 0
 
@@ -135,28 +135,28 @@ module _ {s₀ : Session} {r : Run} where
   no-print (in-failure m) e = m .prints
 
 module _ (s₀ : Session) (A : Allotted s₀) where
-  few-cranked : (k : ℕ) → crank k s₀ .«fill_count» < lotCount s₀
-  few-cranked k = omega (arith, cranked s₀ A k .bound)
+  few-after-fills : (k : ℕ) → afterFills k s₀ .«fill_count» < lotCount s₀
+  few-after-fills k = omega (arith, kept-by-fills s₀ A k .bound)
 
   pub few-made : (r : Run) → Stage s₀ r → r .crankFills < lotCount s₀
-  few-made r (in-matching m) = omega (arith, few-cranked (m .k), ap (λ (x : Run). x .crankFills) (m .is))
-  few-made r (in-rofr m) = omega (arith, few-cranked (m .base .k), m .base .made)
-  few-made r (in-settling m) = omega (arith, few-cranked (m .settlement .base .k), m .settlement .base .made)
-  few-made r (in-print m) = omega (arith, few-cranked (m .settlement .base .k), m .settlement .base .made)
+  few-made r (in-matching m) = omega (arith, few-after-fills (m .k), ap (λ (x : Run). x .crankFills) (m .is))
+  few-made r (in-rofr m) = omega (arith, few-after-fills (m .base .k), m .base .made)
+  few-made r (in-settling m) = omega (arith, few-after-fills (m .settlement .base .k), m .settlement .base .made)
+  few-made r (in-print m) = omega (arith, few-after-fills (m .settlement .base .k), m .settlement .base .made)
   few-made r (in-failure m) = m .made
 
   -- the matching is just complete
-  first-base : (k : ℕ) → done (crank k s₀) ≡ true → (r : Run) → r .purchases ≡ [] → r .crankFills ≡ crank k s₀ .«fill_count» → Base s₀ (crank k s₀) r
+  first-base : (k : ℕ) → done (afterFills k s₀) ≡ true → (r : Run) → r .purchases ≡ [] → r .crankFills ≡ afterFills k s₀ .«fill_count» → Base s₀ (afterFills k s₀) r
   first-base k d r e m =
       record {
         k = k;
         full = d;
         is = rw e;
-        kept = cranked s₀ A k .kept;
-        few = omega (arith, few-cranked k, lots-few s₀, A .few);
+        kept = kept-by-fills s₀ A k .kept;
+        few = omega (arith, few-after-fills k, lots-few s₀, A .few);
         made = m;
-        none-settled = crank-settled k s₀ ∙ A .none-settled;
-        none-skipped = crank-skipped k s₀ ∙ A .none-skipped;
+        none-settled = after-fills-settled k s₀ ∙ A .none-settled;
+        none-skipped = after-fills-skipped k s₀ ∙ A .none-skipped;
       }
 
   first-settlement : (b : Session) (r : Run) → Base s₀ b r → r .session ≡ atPhase b settling → r .settled ≡ [] → r .skipped ≡ [] → r .skippedQty ≡ 0 → Settlement s₀ r
@@ -177,15 +177,15 @@ module _ (s₀ : Session) (A : Allotted s₀) where
         none-skipped = B .none-skipped;
       }
 
-  allocated : (k : ℕ) → Stage s₀ (cranking (matched (crank k s₀)) (crank k s₀ .«fill_count») (not (eqb (matched (crank k s₀) .phase) allocating)))
+  allocated : (k : ℕ) → Stage s₀ (cranking (matched (afterFills k s₀)) (afterFills k s₀ .«fill_count») (not (eqb (matched (afterFills k s₀) .phase) allocating)))
   unfolding phaseAfter
-  allocated k = go (done (crank k s₀)) (same (crank k s₀ .params .«rofr_authority») noWallet) refl
+  allocated k = go (done (afterFills k s₀)) (same (afterFills k s₀ .params .«rofr_authority») noWallet) refl
     where
       t : Session
-      t = crank k s₀
+      t = afterFills k s₀
 
       phase : t .phase ≡ allocating
-      phase = crank-phase k s₀ ∙ A .at
+      phase = after-fills-phase k s₀ ∙ A .at
 
       go : (x y : Bool) → done t ≡ x
           → Stage s₀ (cranking (cond x (atPhase t (cond y settling issuerRofr)) t) (t .«fill_count») (not (eqb (cond x (atPhase t (cond y settling issuerRofr)) t .phase) allocating)))
@@ -215,10 +215,10 @@ module _ (s₀ : Session) (A : Allotted s₀) where
   allocate-keeps : (r : Run) (now : ℤ) (n : ℕ) → Matching s₀ r → Stage s₀ (noted r (allocate now n))
   unfolding note effect allocateEffect
   allocate-keeps r now n M =
-      let t = crank (M .k) s₀ in
-      let e : crank (M .k + n) s₀ ≡ crank n t = crank-add (M .k) n s₀ in
-      let m : t .«fill_count» + (matched (crank n t) .«fill_count» - t .«fill_count») ≡ crank n t .«fill_count» =
-      omega (arith, crank-grows n t, matched-count (crank n t)) in
+      let t = afterFills (M .k) s₀ in
+      let e : afterFills (M .k + n) s₀ ≡ afterFills n t = after-fills-add (M .k) n s₀ in
+      let m : t .«fill_count» + (matched (afterFills n t) .«fill_count» - t .«fill_count») ≡ afterFills n t .«fill_count» =
+      omega (arith, after-fills-grows n t, matched-count (afterFills n t)) in
       subst (λ x. Stage s₀ (noted x (allocate now n))) (sym (M .is))
       (rw m (subst (λ x. Stage s₀ (cranking (matched x) (x .«fill_count») (not (eqb (matched x .phase) allocating)))) e (allocated (M .k + n))))
 
@@ -334,5 +334,5 @@ module _ (s₀ : Session) (A : Allotted s₀) where
 
   -- after every list
   pub reached : (l : List Call) → Stage s₀ (after s₀ l)
-  unfolding crank
+  unfolding afterFills
   reached l = run-keeps l (begin s₀) (in-matching (record { at = A .at; k = 0; is = ap (λ n. cranking s₀ n false) (sym (A .no-fill)) }))

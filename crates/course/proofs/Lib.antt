@@ -1,6 +1,6 @@
 -- Demand 3 and completion, and what they rest on, from the fills of a matching up.
 pub mod Matching
-pub mod Cranks
+pub mod Fills
 pub mod Purchases
 pub mod Marks
 pub mod Accepted

@@ -23,14 +23,14 @@ use Rattle.auction_engine.specs.Session.{fillAt, atPhase, allocating, issuerRof
 use Rattle.auction_engine.specs.Call.{Call, screen, clear, allocate, exercise, close, settle, skip, finish, expire, admits}
 use Rattle.auction_engine.specs.Screening.{exclusionOf, screenEvents, screenLines}
 use Rattle.auction_engine.specs.Clearing.{outcome, clearLines}
-use Rattle.auction_engine.specs.Matching.{due, one, crank, done, phaseAfter, allocateEffect, fillEvents, allocateEvents}
+use Rattle.auction_engine.specs.Matching.{due, one, afterFills, done, phaseAfter, allocateEffect, fillEvents, allocateEvents}
 use Rattle.auction_engine.specs.Rofr.{exerciseEvents, closeEvents}
 use Rattle.auction_engine.specs.Settlement.{printOf, settleEvents, skipEvents, finishEvents, expireEvents}
 use Rattle.auction_engine.specs.Engine.{refusal, effect, events}
-use Rattle.auction_engine.proofs.Cranks.{dueEvent, idle-crank, idle-events, due-count, due-events}
+use Rattle.auction_engine.proofs.Fills.{dueEvent, idle-after-fills, idle-events, due-count, due-events}
 use Rattle.course.specs.Course.{Run, note}
 use Rattle.course.specs.Lines.{Told, tell, tellAll, notesOf}
-use Rattle.course.proofs.Cranks.{crank-grows, crank-phase}
+use Rattle.course.proofs.Fills.{after-fills-grows, after-fills-phase}
 use Rattle.course.proofs.Accepted.{noted, Early, early-screen, early-clear, at-allocate, at-close, at-finish}
 
 -- lines told in two parts
@@ -95,17 +95,17 @@ clear-tells t s found h f =
     (sym (ap (λ u. tell u (PhaseChanged (s .phase) failed)) (other-reason t (found .failed) f) ∙ other-phase t (s .phase) failed h))
 
 -- each fill of a crank is told once
-fills-tell : (n : ℕ) (s : Session) (t : Told) → tellAll t (fillEvents n s) ≡ filled t (t .crankFills + (crank n s .«fill_count» - s .«fill_count»))
-unfolding crank fillEvents
+fills-tell : (n : ℕ) (s : Session) (t : Told) → tellAll t (fillEvents n s) ≡ filled t (t .crankFills + (afterFills n s .«fill_count» - s .«fill_count»))
+unfolding afterFills fillEvents
 fills-tell zero s t = ap (filled t) (omega arith)
 fills-tell (suc n) s t = go (due s) refl (λ u. fills-tell n (one s) u)
   where
     go : (x : Bool) → due s ≡ x
-        → ((u : Told) → tellAll u (fillEvents n (one s)) ≡ filled u (u .crankFills + (crank n (one s) .«fill_count» - one s .«fill_count»)))
-        → tellAll t (fillEvents (suc n) s) ≡ filled t (t .crankFills + (crank (suc n) s .«fill_count» - s .«fill_count»))
+        → ((u : Told) → tellAll u (fillEvents n (one s)) ≡ filled u (u .crankFills + (afterFills n (one s) .«fill_count» - one s .«fill_count»)))
+        → tellAll t (fillEvents (suc n) s) ≡ filled t (t .crankFills + (afterFills (suc n) s .«fill_count» - s .«fill_count»))
     go true d ih =
-        ap (tellAll t) (due-events s d n) ∙ ih (tell t (dueEvent s)) ∙ ap (filled t) (omega (arith, due-count s d, crank-grows n (one s)))
-    go false d ih = ap (tellAll t) (idle-events s d (suc n)) ∙ ap (filled t) (omega (arith, ap (λ (u : Session). u .«fill_count») (idle-crank s d (suc n))))
+        ap (tellAll t) (due-events s d n) ∙ ih (tell t (dueEvent s)) ∙ ap (filled t) (omega (arith, due-count s d, after-fills-grows n (one s)))
+    go false d ih = ap (tellAll t) (idle-events s d (suc n)) ∙ ap (filled t) (omega (arith, ap (λ (u : Session). u .«fill_count») (idle-after-fills s d (suc n))))
 
 -- the matching leaves Allocating for IssuerRofr or Settling
 goes-on : (s : Session) → (phaseAfter s ≢ allocating) × (phaseAfter s ≢ failed)
@@ -127,10 +127,10 @@ allocate-tells r now n h =
     s = r .session
 
     t : Session
-    t = crank n s
+    t = afterFills n s
 
     phase : t .phase ≡ allocating
-    phase = crank-phase n s ∙ h
+    phase = after-fills-phase n s ∙ h
 
     after : Session → Told
     after u =

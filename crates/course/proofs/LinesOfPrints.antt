@@ -18,14 +18,14 @@ use Rattle.auction_engine.specs.Session.{printed}
 use Rattle.auction_engine.specs.Call.{Call, screen, clear, allocate, exercise, close, settle, skip, finish, expire, admits}
 use Rattle.auction_engine.specs.Screening.{screenEffect}
 use Rattle.auction_engine.specs.Clearing.{outcome, clearedBy}
-use Rattle.auction_engine.specs.Matching.{crank, done, allocateEffect}
+use Rattle.auction_engine.specs.Matching.{afterFills, done, allocateEffect}
 use Rattle.auction_engine.specs.Rofr.{exerciseEffect, closeEffect}
 use Rattle.auction_engine.specs.Settlement.{movedVolume, printOf, settleEffect, skipEffect, finishEffect, expireEffect}
 use Rattle.auction_engine.specs.Engine.{refusal, effect}
 use Rattle.auction_engine.proofs.Prints.{finish-passed}
 use Rattle.course.specs.Course.{Run, begin, note, advance, run}
 use Rattle.course.specs.Demand3.{after}
-use Rattle.course.proofs.Cranks.{crank-given}
+use Rattle.course.proofs.Fills.{after-fills-given}
 use Rattle.course.proofs.Applied.{note-session}
 use Rattle.course.proofs.Accepted.{noted, early-screen, early-clear, at-allocate, exercised, at-close, settles, skips, at-finish, at-expire}
 
@@ -51,7 +51,7 @@ effect-given : (s : Session) (c : Call) → effect s c .given ≡ s .given
 unfolding effect screenEffect clearedBy allocateEffect exerciseEffect closeEffect settleEffect skipEffect finishEffect expireEffect
 effect-given s (screen now i side verdict hasId id) = refl
 effect-given s (clear now) = either-given (eqb (outcome s .failed) 0) s _ _ refl refl
-effect-given s (allocate now n) = either-given (done (crank n s)) s _ _ (crank-given n s) (crank-given n s)
+effect-given s (allocate now n) = either-given (done (afterFills n s)) s _ _ (after-fills-given n s) (after-fills-given n s)
 effect-given s (exercise now issuer i q) = refl
 effect-given s (close now caller) = refl
 effect-given s (settle i) = refl

@@ -13,7 +13,7 @@ use Rattle.auction_engine.specs.Session.{fillAt, clearing}
 use Rattle.auction_engine.specs.Call.{Call, screen, clear, allocate, exercise, close, settle, skip, finish, expire}
 use Rattle.auction_engine.specs.Screening.{exclusionOf, screenEvents}
 use Rattle.auction_engine.specs.Clearing.{outcome, clearLines}
-use Rattle.auction_engine.specs.Matching.{due, one, crank, done, fillEvents, allocateEvents}
+use Rattle.auction_engine.specs.Matching.{due, one, afterFills, done, fillEvents, allocateEvents}
 use Rattle.auction_engine.specs.Rofr.{exerciseEvents, closeEvents}
 use Rattle.auction_engine.specs.Settlement.{settleEvents, skipEvents, finishEvents, expireEvents}
 use Rattle.auction_engine.specs.Engine.{refusal, events, answer}
@@ -100,7 +100,7 @@ call-names k s (screen now i side verdict hasId id) e h =
     each-append k (cond (eqb (s .phase) clearing) [] change) (OrderScreened i (exclusionOf s i verdict hasId id) ∷ [])
     (each-either k (eqb (s .phase) clearing) [] change tt (tt, tt)) (tt, tt)
 call-names k s (clear now) e h = each-either k (eqb (outcome s .failed) 0) _ _ (tt, (tt, tt)) (tt, (tt, tt))
-call-names k s (allocate now n) e h = each-append k (fillEvents n s) _ (each-fill k n s) (each-either k (done (crank n s)) _ [] (tt, tt) tt)
+call-names k s (allocate now n) e h = each-append k (fillEvents n s) _ (each-fill k n s) (each-either k (done (afterFills n s)) _ [] (tt, tt) tt)
 call-names k s (exercise now issuer i q) e h = (tt, tt)
 call-names k s (close now caller) e h = (tt, (tt, tt))
 call-names k s (settle i) e h =

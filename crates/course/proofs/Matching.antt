@@ -25,7 +25,7 @@ use Rattle.book.specs.declared.Fill.{Fill}
 use Rattle.auction_engine.specs.declared.Session.{Session}
 use Rattle.auction_engine.specs.Session.{orderAt, fillAt, left, allocating}
 use Rattle.auction_engine.specs.Call.{limitsRefusal, fieldsRefusal}
-use Rattle.auction_engine.specs.Matching.{lessLeft, dueOn, dueAt, buyAt, sellAt, due, dueQty, pair, one, crank}
+use Rattle.auction_engine.specs.Matching.{lessLeft, dueOn, dueAt, buyAt, sellAt, due, dueQty, pair, one, afterFills}
 use Rattle.course.specs.Demand3.{soldBy, sold}
 
 -- an order's lot, and what is left of it, on one side only
@@ -72,14 +72,14 @@ pub record Kept (s₀ t : Session) : Type 0 where
   pub volume : sumOver (λ f. f .qty) noFill (t .fills) (t .«fill_count») + sumOver (leftOn buySide) noOrder (t .orders) (t .«order_count») ≡ s₀ .cleared .«cleared_volume»
 
 -- and what fills keep beside it: each leaves fewer orders with something left, and the last one two fewer
-pub record Cranked (s₀ t : Session) : Type 0 where
+pub record KeptByFills (s₀ t : Session) : Type 0 where
   pub kept : Kept s₀ t
   pub bound : t .«fill_count» + max 1 (leftCount t) ≤ lotCount s₀
 
 pub lots-few : (s : Session) → lotCount s ≤ s .«order_count»
 lots-few s = count-le (λ i. ltb 0 (orderAt s i .alloc)) (s .«order_count»)
 
-pub room : (s₀ t : Session) → Allotted s₀ → Cranked s₀ t → t .«fill_count» < maxFills
+pub room : (s₀ t : Session) → Allotted s₀ → KeptByFills s₀ t → t .«fill_count» < maxFills
 room s₀ t A C = omega (arith, C .bound, lots-few s₀, A .few)
 
 -- order b can buy q of order a
@@ -261,10 +261,10 @@ pub one-idle : (t : Session) → due t ≡ false → one t ≡ t
 unfolding one
 one-idle t e = rw e
 
-pub one-keeps : (s₀ t : Session) → Allotted s₀ → Cranked s₀ t → Cranked s₀ (one t)
+pub one-keeps : (s₀ t : Session) → Allotted s₀ → KeptByFills s₀ t → KeptByFills s₀ (one t)
 one-keeps s₀ t A C = go (due t) refl
   where
-    go : (x : Bool) → due t ≡ x → Cranked s₀ (one t)
+    go : (x : Bool) → due t ≡ x → KeptByFills s₀ (one t)
     go false e = rw (one-idle t e) C
     go true e =
         let D = due-at t e in
@@ -273,10 +273,10 @@ one-keeps s₀ t A C = go (due t) refl
           bound = omega (arith, C .bound, due-count t (buyAt t) (sellAt t) (dueQty t), fill-leaves s₀ t A (C .kept) D);
         })
 
-pub crank-keeps : (s₀ : Session) → Allotted s₀ → (n : ℕ) (t : Session) → Cranked s₀ t → Cranked s₀ (crank n t)
-unfolding crank
-crank-keeps s₀ A zero t C = C
-crank-keeps s₀ A (suc n) t C = crank-keeps s₀ A n (one t) (one-keeps s₀ t A C)
+pub after-fills-keeps : (s₀ : Session) → Allotted s₀ → (n : ℕ) (t : Session) → KeptByFills s₀ t → KeptByFills s₀ (afterFills n t)
+unfolding afterFills
+after-fills-keeps s₀ A zero t C = C
+after-fills-keeps s₀ A (suc n) t C = after-fills-keeps s₀ A n (one t) (one-keeps s₀ t A C)
 
 -- a session with a volume has an order with a lot
 lot-on-is : (side : ℕ) (o : Order) → ltb 0 (lotOn side o) ≡ true → ltb 0 (o .alloc) ≡ true
@@ -322,5 +322,5 @@ module _ (s : Session) (A : Allotted s) where
         volume = omega (arith, A .bought, no-fills (λ f. f .qty), whole-on buySide);
       }
 
-  pub cranked : (k : ℕ) → Cranked s (crank k s)
-  cranked k = crank-keeps s A k s (record { kept = start-kept; bound = omega (arith, A .no-fill, some-lot s A, whole-count) })
+  pub kept-by-fills : (k : ℕ) → KeptByFills s (afterFills k s)
+  kept-by-fills k = after-fills-keeps s A k s (record { kept = start-kept; bound = omega (arith, A .no-fill, some-lot s A, whole-count) })

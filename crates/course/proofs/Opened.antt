@@ -27,14 +27,14 @@ use Rattle.auction_engine.specs.Session.{orderAt, fresh, atPhase, allocating, i
 use Rattle.auction_engine.specs.Call.{Call, screen, clear, allocate, exercise, close, settle, skip, finish, expire, admits}
 use Rattle.auction_engine.specs.Screening.{screenEffect}
 use Rattle.auction_engine.specs.Clearing.{outcome, clearedBy, clearEffect}
-use Rattle.auction_engine.specs.Matching.{crank, done, phaseAfter, allocateEffect}
+use Rattle.auction_engine.specs.Matching.{afterFills, done, phaseAfter, allocateEffect}
 use Rattle.auction_engine.specs.Rofr.{exerciseEffect, closeEffect}
 use Rattle.auction_engine.specs.Settlement.{settleEffect, skipEffect, finishEffect, expireEffect}
 use Rattle.auction_engine.specs.Engine.{refusal, effect}
 use Rattle.auction_engine.specs.Opening.{orderRefusal, withOrder, withRows, RowsAccepted, Opening, opened}
 use Rattle.course.specs.Course.{Run, begin, note, advance, run}
 use Rattle.course.specs.Demand3.{after}
-use Rattle.course.proofs.Cranks.{crank-phase}
+use Rattle.course.proofs.Fills.{after-fills-phase}
 use Rattle.course.proofs.Accepted.{noted, Early, early-screen, at-allocate, exercised, settles, skips}
 
 -- nothing is filled, settled or skipped, and owners are distinct
@@ -128,9 +128,9 @@ clear-late s e = neither-early (eqb (outcome s .failed) 0) _ _ false≢true fals
 allocate-late : (s : Session) (n : ℕ) → s .phase ≡ allocating → Early (allocateEffect s n .phase) → ⊥
 unfolding allocateEffect phaseAfter admits
 allocate-late s n h e =
-    let t = crank n s in
+    let t = afterFills n s in
     neither-early (done t) (atPhase t (phaseAfter t)) t (after-late (same (t .params .«rofr_authority») noWallet))
-    (not-early t allocating (crank-phase n s ∙ h) false≢true) e
+    (not-early t allocating (after-fills-phase n s ∙ h) false≢true) e
   where
     after-late : (y : Bool) → Early (cond y settling issuerRofr) → ⊥
     after-late true k = false≢true k

@@ -28,17 +28,17 @@ use Rattle.auction_engine.specs.Session.{orderAt, fresh, atPhase, issuerRofr, s
 use Rattle.auction_engine.specs.Call.{Call, screen, clear, allocate, exercise, close, settle, skip, finish, expire, limitsRefusal, fieldsRefusal}
 use Rattle.auction_engine.specs.Screening.{screenEffect}
 use Rattle.auction_engine.specs.Clearing.{outcome, withLots, clearedBy}
-use Rattle.auction_engine.specs.Matching.{lessLeft, due, pair, one, crank, overfull, done, phaseAfter, matched, allocateEffect}
+use Rattle.auction_engine.specs.Matching.{lessLeft, due, pair, one, afterFills, overfull, done, phaseAfter, matched, allocateEffect}
 use Rattle.auction_engine.specs.Rofr.{exerciseEffect, closeEffect}
 use Rattle.auction_engine.specs.Settlement.{settleEffect, skipEffect, finishEffect, expireEffect}
 use Rattle.auction_engine.specs.Engine.{refusal, effect, answer}
 use Rattle.auction_engine.specs.Opening.{headerRefusal, orderRefusal, withOrder, withRows, RowsAccepted, Opening, opened}
-use Rattle.auction_engine.proofs.Cranks.{due-count, due-full, free-full, idle-crank, crank-orders}
+use Rattle.auction_engine.proofs.Fills.{due-count, due-full, free-full, idle-after-fills, after-fills-orders}
 use Rattle.course.specs.Applied.{sessionAfter}
 use Rattle.course.specs.Demand3.{after}
-use Rattle.course.proofs.Cranks.{crank-frame, crank-phase, crank-params, crank-given}
+use Rattle.course.proofs.Fills.{after-fills-frame, after-fills-phase, after-fills-params, after-fills-given}
 use Rattle.course.proofs.Accepted.{at-allocate, not-full, exercised, settles, skips}
-use Rattle.course.proofs.Checked.{few-fills, known-sides, limits-stand, fields-stand}
+use Rattle.course.proofs.Checked.{few-fills, known-sides, limits-kept, fields-kept}
 use Rattle.course.proofs.Applied.{run-is-answers}
 
 pub record Passes (s : Session) : Type 0 where
@@ -130,14 +130,14 @@ pair-side t b a q i =
     let kept : (j : ℕ) → orderIn half j .side ≡ orderAt t j .side = unseen (λ (o : Order). o .side) (t .orders) b (lessLeft (orderAt t b) q) noOrder refl in
     unseen (λ (o : Order). o .side) half a (lessLeft (orderAt t a) q) noOrder (sym (kept a)) i ∙ kept i
 
-crank-few : (n : ℕ) (s : Session) → s .«fill_count» ≤ maxFills → overfull n s ≡ false → crank n s .«fill_count» ≤ maxFills
-unfolding crank
-crank-few zero s h e = h
-crank-few (suc n) s h e = go (due s) refl (leb maxFills (s .«fill_count»)) refl (crank-few n (one s))
+after-fills-few : (n : ℕ) (s : Session) → s .«fill_count» ≤ maxFills → overfull n s ≡ false → afterFills n s .«fill_count» ≤ maxFills
+unfolding afterFills
+after-fills-few zero s h e = h
+after-fills-few (suc n) s h e = go (due s) refl (leb maxFills (s .«fill_count»)) refl (after-fills-few n (one s))
   where
     go : (x : Bool) → due s ≡ x → (y : Bool) → leb maxFills (s .«fill_count») ≡ y
-        → (one s .«fill_count» ≤ maxFills → overfull n (one s) ≡ false → crank n (one s) .«fill_count» ≤ maxFills) → crank (suc n) s .«fill_count» ≤ maxFills
-    go false d y f ih = rw (idle-crank s d (suc n)) h
+        → (one s .«fill_count» ≤ maxFills → overfull n (one s) ≡ false → afterFills n (one s) .«fill_count» ≤ maxFills) → afterFills (suc n) s .«fill_count» ≤ maxFills
+    go false d y f ih = rw (idle-after-fills s d (suc n)) h
     go true d false f ih =
         let l : s .«fill_count» < maxFills = leb-false maxFills (s .«fill_count») f in
         ih (omega (arith, due-count s d)) (sym (free-full n s l) ∙ e)
@@ -153,38 +153,38 @@ after-known s = go (same (s .params .«rofr_authority») noWallet)
 
 -- ---- a call
 -- t has what the checks read of s, but for fills and phase
-stands : (s t : Session) → Passes s → t .«order_count» ≡ s .«order_count» → t .given ≡ s .given → t .params ≡ s .params
+still-passes : (s t : Session) → Passes s → t .«order_count» ≡ s .«order_count» → t .given ≡ s .given → t .params ≡ s .params
     → t .«fill_count» ≤ maxFills → t .phase ≤ 7 → ((i : ℕ) → orderAt t i .side ≡ orderAt s i .side) → Passes t
-stands s t P n g p f h sides = record { limits = limits-stand s t n g p f (P .limits); fields = fields-stand s t n g h (λ i l. sides i) (P .fields) }
+still-passes s t P n g p f h sides = record { limits = limits-kept s t n g p f (P .limits); fields = fields-kept s t n g h (λ i l. sides i) (P .fields) }
 
 either : (x : Bool) (s t : Session) → Passes s → Passes t → Passes (cond x s t)
 either true s t P Q = P
 either false s t P Q = Q
 
-crank-passes : (n : ℕ) (s : Session) → Passes s → s .phase ≤ 7 → overfull n s ≡ false → Passes (crank n s)
-crank-passes n s P h e =
-    stands s (crank n s) P (crank-orders n s) (crank-given n s) (crank-params n s) (crank-few n s (few-fills s (P .limits)) e) (omega (arith, crank-phase n s))
-    (λ i. crank-frame (λ t. orderAt t i .side) (λ t b a q. pair-side t b a q i) n s)
+after-fills-passes : (n : ℕ) (s : Session) → Passes s → s .phase ≤ 7 → overfull n s ≡ false → Passes (afterFills n s)
+after-fills-passes n s P h e =
+    still-passes s (afterFills n s) P (after-fills-orders n s) (after-fills-given n s) (after-fills-params n s) (after-fills-few n s (few-fills s (P .limits)) e) (omega (arith, after-fills-phase n s))
+    (λ i. after-fills-frame (λ t. orderAt t i .side) (λ t b a q. pair-side t b a q i) n s)
 
 matched-passes : (t : Session) → Passes t → Passes (matched t)
-matched-passes t P = either (done t) (atPhase t (phaseAfter t)) t (stands t _ P refl refl refl (few-fills t (P .limits)) (after-known t) (λ i. refl)) P
+matched-passes t P = either (done t) (atPhase t (phaseAfter t)) t (still-passes t _ P refl refl refl (few-fills t (P .limits)) (after-known t) (λ i. refl)) P
 
 effect-passes : (s : Session) (c : Call) → Passes s → refusal s c ≡ 0 → Passes (effect s c)
 unfolding effect screenEffect clearedBy allocateEffect exerciseEffect closeEffect settleEffect skipEffect finishEffect expireEffect
 effect-passes s (screen now i side verdict hasId id) P e =
-    stands s _ P refl refl refl (few-fills s (P .limits)) (omega arith) (λ j. unseen (λ (o : Order). o .side) (s .orders) i _ noOrder refl j)
+    still-passes s _ P refl refl refl (few-fills s (P .limits)) (omega arith) (λ j. unseen (λ (o : Order). o .side) (s .orders) i _ noOrder refl j)
 effect-passes s (clear now) P e =
     either (eqb (outcome s .failed) 0) _ _
-    (stands s _ P refl refl refl (few-fills s (P .limits)) (omega arith) (lots-side (s .orders) (outcome s .lots) (s .«order_count»)))
-    (stands s _ P refl refl refl (few-fills s (P .limits)) (omega arith) (λ j. refl))
-effect-passes s (allocate now n) P e = matched-passes (crank n s) (crank-passes n s P (omega (arith, at-allocate s now n e)) (not-full s now n e))
+    (still-passes s _ P refl refl refl (few-fills s (P .limits)) (omega arith) (lots-side (s .orders) (outcome s .lots) (s .«order_count»)))
+    (still-passes s _ P refl refl refl (few-fills s (P .limits)) (omega arith) (λ j. refl))
+effect-passes s (allocate now n) P e = matched-passes (afterFills n s) (after-fills-passes n s P (omega (arith, at-allocate s now n e)) (not-full s now n e))
 effect-passes s (exercise now issuer i q) P e =
-    let E = exercised s now issuer i q e in stands s _ P refl refl refl (omega (arith, E .free)) (omega (arith, E .at)) (λ j. refl)
-effect-passes s (close now caller) P e = stands s _ P refl refl refl (few-fills s (P .limits)) (omega arith) (λ j. refl)
-effect-passes s (settle i) P e = stands s _ P refl refl refl (few-fills s (P .limits)) (omega (arith, settles s i e .at)) (λ j. refl)
-effect-passes s (skip now i reason) P e = stands s _ P refl refl refl (few-fills s (P .limits)) (omega (arith, skips s now i reason e .at)) (λ j. refl)
-effect-passes s (finish now) P e = stands s _ P refl refl refl (few-fills s (P .limits)) (omega arith) (λ j. refl)
-effect-passes s (expire now) P e = stands s _ P refl refl refl (few-fills s (P .limits)) (omega arith) (λ j. refl)
+    let E = exercised s now issuer i q e in still-passes s _ P refl refl refl (omega (arith, E .free)) (omega (arith, E .at)) (λ j. refl)
+effect-passes s (close now caller) P e = still-passes s _ P refl refl refl (few-fills s (P .limits)) (omega arith) (λ j. refl)
+effect-passes s (settle i) P e = still-passes s _ P refl refl refl (few-fills s (P .limits)) (omega (arith, settles s i e .at)) (λ j. refl)
+effect-passes s (skip now i reason) P e = still-passes s _ P refl refl refl (few-fills s (P .limits)) (omega (arith, skips s now i reason e .at)) (λ j. refl)
+effect-passes s (finish now) P e = still-passes s _ P refl refl refl (few-fills s (P .limits)) (omega arith) (λ j. refl)
+effect-passes s (expire now) P e = still-passes s _ P refl refl refl (few-fills s (P .limits)) (omega arith) (λ j. refl)
 
 -- ---- calls in turn
 answer-passes : (s : Session) (c : Call) → Passes s → Passes (answer s c .session)

@@ -28,7 +28,7 @@ use Rattle.course.proofs.Accepted.{limits-pass, fields-pass, early-clea
 use Rattle.course.proofs.Opened.{Unfilled, still-unfilled}
 use Rattle.course.proofs.Lotted.{lots-places, lots-at}
 use Rattle.course.proofs.Lots.{AddUp, sideLots, lots-add-up}
-use Rattle.course.proofs.Checked.{few-orders, known-sides, limits-stand, fields-stand}
+use Rattle.course.proofs.Checked.{few-orders, known-sides, limits-kept, fields-kept}
 
 -- the `clear` line says that the clear did not fail, and its volume
 line-says : (x : Bool) (p v r m w p′ v′ r′ m′ : ℕ) (ks ms others : List Event)
@@ -62,8 +62,8 @@ module _ (s : Session) (U : Unfilled s) (limits : limitsRefusal s ≡ 0) (fields
       let side : (i : ℕ) → i < s .«order_count» → orderAt (priced s) i .side ≡ orderAt s i .side = λ i l. ap (λ (o : Order). o .side) (order-at i l) in
       record {
         at = refl;
-        limits = limits-stand s (priced s) refl refl refl (omega (arith, U .no-fill)) limits;
-        fields = fields-stand s (priced s) refl refl (omega arith) side fields;
+        limits = limits-kept s (priced s) refl refl refl (omega (arith, U .no-fill)) limits;
+        fields = fields-kept s (priced s) refl refl (omega arith) side fields;
         few = few-orders s limits;
         sides = λ i l. omega (arith, side i l, known-sides s fields i l);
         order-places = lots-places (s .orders) (outcome s .lots) (s .«order_count») ∙ U .order-places;

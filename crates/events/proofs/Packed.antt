@@ -10,8 +10,8 @@ use lib.ListN.{length, set, replicate, length-append, length-take}
 use lib.Seq.{take-all, take-at, set-append-seam}
 use Rattle.events.specs.declared.Event.{Event}
 use Rattle.events.specs.declared.Line.{Line}
-use Rattle.events.specs.declared.Few.{Few}
-use Rattle.events.specs.Events.{maxEvents, lineOf, blank, packed, eventsIn, pushed, few, inFew}
+use Rattle.events.specs.declared.EventPair.{EventPair}
+use Rattle.events.specs.Events.{maxEvents, lineOf, blank, packed, eventsIn, pushed, eventPair, pairEvents}
 
 map-append : (l k : List Event) → map lineOf (l ++ k) ≡ map lineOf l ++ map lineOf k
 map-append [] k = refl
@@ -53,19 +53,19 @@ unfolding packed
 events-packed l h =
     rw (min-eq-left h, take-at (map lineOf l) (replicate (maxEvents - length l) blank) (length l) (length-lines l)) (events-lines l)
 
-pub in-few : (l : List Event) → length l ≤ 2 → inFew (few l) ≡ l
-in-few [] h = refl
-in-few (e ∷ []) h = refl
-in-few (e ∷ f ∷ []) h = refl
-in-few (e ∷ f ∷ g ∷ l) h = absurd (omega arith)
+pub in-pair : (l : List Event) → length l ≤ 2 → pairEvents (eventPair l) ≡ l
+in-pair [] h = refl
+in-pair (e ∷ []) h = refl
+in-pair (e ∷ f ∷ []) h = refl
+in-pair (e ∷ f ∷ g ∷ l) h = absurd (omega arith)
 
 -- such a struct holds both of its events where it counts two or more, and no more than two
-pub both-held : (f : Few) → 2 ≤ f .count → inFew f ≡ f .first ∷ f .second ∷ []
+pub both-held : (f : EventPair) → 2 ≤ f .count → pairEvents f ≡ f .first ∷ f .second ∷ []
 both-held f h = take-all (f .count) (f .first ∷ f .second ∷ []) h
 
-two-held : (f : Few) → length (inFew f) ≤ 2
+two-held : (f : EventPair) → length (pairEvents f) ≤ 2
 two-held f = rw (length-take (f .count) (f .first ∷ f .second ∷ [])) (omega arith)
 
 -- the larger struct holds the same events
-pub few-packed : (f : Few) → eventsIn (packed (inFew f)) ≡ inFew f
-few-packed f = events-packed (inFew f) (omega (arith, two-held f))
+pub pair-packed : (f : EventPair) → eventsIn (packed (pairEvents f)) ≡ pairEvents f
+pair-packed f = events-packed (pairEvents f) (omega (arith, two-held f))

@@ -9,7 +9,7 @@ use Rattle.events.specs.declared.Event.{Event}
 use Rattle.events.specs.declared.Event.the-variants.{Nothing}
 use Rattle.events.specs.declared.Line.{Line}
 use Rattle.events.specs.declared.Events.{Events}
-use Rattle.events.specs.declared.Few.{Few}
+use Rattle.events.specs.declared.EventPair.{EventPair}
 
 -- the most events of one call: every fill, and the change of phase
 abbrev pub maxEvents : ℕ
@@ -34,9 +34,9 @@ unfoldable pub pushed : Events → Event → Events
 pushed es e = cond (ltb (es .count) maxEvents) (record { lines = set (es .lines) (es .count) (lineOf e); count = es .count + 1 }) es
 
 -- the struct that holds a list of at most two
-abbrev pub few : List Event → Few
-few l = record { count = length l; first = getD l 0 Nothing; second = getD l 1 Nothing }
+abbrev pub eventPair : List Event → EventPair
+eventPair l = record { count = length l; first = getD l 0 Nothing; second = getD l 1 Nothing }
 
 -- the events that it holds
-abbrev pub inFew : Few → List Event
-inFew f = take (f .count) (f .first ∷ f .second ∷ [])
+abbrev pub pairEvents : EventPair → List Event
+pairEvents f = take (f .count) (f .first ∷ f .second ∷ [])

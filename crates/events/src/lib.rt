@@ -1,7 +1,7 @@
 // What is said of a call or of a record: the source's events, in its names and order, and document 01's own lines.
 ghost use mathlib.Core.Path.{_≡_};
 ghost use mathlib.Core.List.{[], _∷_};
-ghost use Rattle.events.specs.Events.{packed, pushed, few, inFew};
+ghost use Rattle.events.specs.Events.{packed, pushed, eventPair, pairEvents};
 
 // The most events of one call: every fill, and the change of phase.
 pub const MAX_EVENTS: usize = book::MAX_FILLS + 1;
@@ -106,17 +106,17 @@ impl Events {
 }
 
 // At most two events: all that a call says that makes no fills. It is smaller than Events, and so cheaper to make and to copy.
-pub struct Few {
+pub struct EventPair {
     pub count: usize,
     pub first: Event,
     pub second: Event,
 }
 
-impl Few {
+impl EventPair {
     pub fn none() -> Self
-        ensures { λ r. ⌜ r ≡ few [] ⌝ }
+        ensures { λ r. ⌜ r ≡ eventPair [] ⌝ }
     {
-        Few {
+        EventPair {
             count: 0,
             first: Event::Nothing,
             second: Event::Nothing,
@@ -124,9 +124,9 @@ impl Few {
     }
 
     pub fn one(e: Event) -> Self
-        ensures { λ r. ⌜ r ≡ few (e ∷ []) ⌝ }
+        ensures { λ r. ⌜ r ≡ eventPair (e ∷ []) ⌝ }
     {
-        Few {
+        EventPair {
             count: 1,
             first: e,
             second: Event::Nothing,
@@ -134,9 +134,9 @@ impl Few {
     }
 
     pub fn two(e: Event, f: Event) -> Self
-        ensures { λ r. ⌜ r ≡ few (e ∷ f ∷ []) ⌝ }
+        ensures { λ r. ⌜ r ≡ eventPair (e ∷ f ∷ []) ⌝ }
     {
-        Few {
+        EventPair {
             count: 2,
             first: e,
             second: f,
@@ -145,7 +145,7 @@ impl Few {
 
     // The same events in the struct that holds any call's.
     pub fn all(self) -> Events
-        ensures { λ r. ⌜ r ≡ packed (inFew self) ⌝ }
+        ensures { λ r. ⌜ r ≡ packed (pairEvents self) ⌝ }
     {
         let none = Events::none();
         if self.count == 0 {

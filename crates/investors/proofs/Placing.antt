@@ -24,7 +24,7 @@ use Rattle.book.specs.Book.{orderIn, fillIn, noInvestor}
 use Rattle.book.specs.declared.Order.{Order}
 use Rattle.book.specs.declared.Fill.{Fill}
 use Rattle.investors.specs.Participants.{firstOrder, moved}
-use Rattle.investors.specs.Places.{partyOf, sameParty, walletAt, placeOf, blankPlace, placesOf, noPlace, placeIn, standsAt, isNew}
+use Rattle.investors.specs.Places.{partyOf, sameParty, walletAt, placeOf, blankPlace, placesOf, noPlace, placeIn, takesPartAt, isNew}
 use Rattle.investors.specs.declared.participants.Party.{Party}
 use Rattle.investors.specs.declared.participants.Place.{Place}
 
@@ -82,7 +82,7 @@ module _ (orders : List Order) (n : ℕ) (fills : List Fill) (skipped : ℕ) whe
 
 -- what is new at a place goes by the places up to it
 new-same : (P Q : ℕ → Place) (k : ℕ) → ((j : ℕ) → j ≤ k → P j ≡ Q j) → isNew P k ≡ isNew Q k
-unfolding isNew standsAt
+unfolding isNew takesPartAt
 new-same P Q k h =
     rw (h k (le-refl k), some-same (λ j. P j .moved && sameParty (P j .who) (Q k .who)) (λ j. Q j .moved && sameParty (Q j .who) (Q k .who)) k (λ j l. rw (h j (le-of-lt l))))
 

@@ -1,4 +1,4 @@
--- The places whose participant stands at no earlier one number as many as the participants seen. Assumes nothing.
+-- The places whose participant takes part at no earlier one number as many as the participants seen. Assumes nothing.
 use mathlib.Core.Path.{_≡_, refl, sym, _∙_, ap, subst}
 use mathlib.Core.Bool.{Bool, true, false, cond, not, _&&_, _||_, or-comm, or-false}
 use mathlib.Core.List.{List, [], _∷_}
@@ -17,7 +17,7 @@ use Rattle.book.specs.Book.{orderIn, fillIn, noInvestor}
 use Rattle.book.specs.declared.Order.{Order}
 use Rattle.book.specs.declared.Fill.{Fill}
 use Rattle.investors.specs.Participants.{Participant, investor, wallet, sameParticipant, contains, noted, moved, firstOrder, participant, seen, distinctParticipants}
-use Rattle.investors.specs.Places.{partyOf, sameParty, walletAt, placeOf, placesOf, placeIn, standsAt, isNew}
+use Rattle.investors.specs.Places.{partyOf, sameParty, walletAt, placeOf, placesOf, placeIn, takesPartAt, isNew}
 use Rattle.investors.specs.declared.participants.Party.{Party}
 use Rattle.investors.specs.declared.participants.Place.{Place}
 use Rattle.investors.proofs.Placing.{new-places, place-stored}
@@ -60,30 +60,30 @@ module _ (place : ℕ → Place) where
   seenAt zero = []
   seenAt (suc k) = cond (place k .moved) (noted (seenAt k) (asParticipant (place k .who))) (seenAt k)
 
-  -- whoever stands at a place is seen, and the other way round
-  seen-stands : (k : ℕ) (a : Party) → contains (seenAt k) (asParticipant a) ≡ some (standsAt place a) k
-  unfolding seenAt contains some standsAt
-  seen-stands zero a = refl
-  seen-stands (suc k) a = go (place k .moved) (contains (seenAt k) (asParticipant (place k .who))) refl (seen-stands k a)
+  -- whoever takes part at a place is seen, and the other way round
+  seen-takes-part : (k : ℕ) (a : Party) → contains (seenAt k) (asParticipant a) ≡ some (takesPartAt place a) k
+  unfolding seenAt contains some takesPartAt
+  seen-takes-part zero a = refl
+  seen-takes-part (suc k) a = go (place k .moved) (contains (seenAt k) (asParticipant (place k .who))) refl (seen-takes-part k a)
     where
-      go : (b c : Bool) → contains (seenAt k) (asParticipant (place k .who)) ≡ c → contains (seenAt k) (asParticipant a) ≡ some (standsAt place a) k
-          → contains (cond b (cond c (seenAt k) (asParticipant (place k .who) ∷ seenAt k)) (seenAt k)) (asParticipant a) ≡ (some (standsAt place a) k || b && sameParty (place k .who) a)
-      go false c e ih = ih ∙ sym (or-false (some (standsAt place a) k))
-      go true false e ih = rw (same-parties (place k .who) a, ih) (or-comm (sameParty (place k .who) a) (some (standsAt place a) k))
+      go : (b c : Bool) → contains (seenAt k) (asParticipant (place k .who)) ≡ c → contains (seenAt k) (asParticipant a) ≡ some (takesPartAt place a) k
+          → contains (cond b (cond c (seenAt k) (asParticipant (place k .who) ∷ seenAt k)) (seenAt k)) (asParticipant a) ≡ (some (takesPartAt place a) k || b && sameParty (place k .who) a)
+      go false c e ih = ih ∙ sym (or-false (some (takesPartAt place a) k))
+      go true false e ih = rw (same-parties (place k .who) a, ih) (or-comm (sameParty (place k .who) a) (some (takesPartAt place a) k))
       go true true e ih = ih ∙ known (sameParty (place k .who) a) refl
         where
-          known : (d : Bool) → sameParty (place k .who) a ≡ d → some (standsAt place a) k ≡ (some (standsAt place a) k || d)
-          known false f = sym (or-false (some (standsAt place a) k))
+          known : (d : Bool) → sameParty (place k .who) a ≡ d → some (takesPartAt place a) k ≡ (some (takesPartAt place a) k || d)
+          known false f = sym (or-false (some (takesPartAt place a) k))
           known true f = rw (sym ih ∙ subst (λ (p : Participant). contains (seenAt k) p ≡ true) (same-participant (asParticipant (place k .who)) (asParticipant a) (same-parties (place k .who) a ∙ f)) e)
 
   -- as many new places as participants seen
   new-count : (k : ℕ) → length (seenAt k) ≡ count (isNew place) k
   unfolding seenAt count sumBelow isNew
   new-count zero = refl
-  new-count (suc k) = go (place k .moved) (contains (seenAt k) (asParticipant (place k .who))) (sym (seen-stands k (place k .who))) (new-count k)
+  new-count (suc k) = go (place k .moved) (contains (seenAt k) (asParticipant (place k .who))) (sym (seen-takes-part k (place k .who))) (new-count k)
     where
-      go : (b c : Bool) → some (standsAt place (place k .who)) k ≡ c → length (seenAt k) ≡ count (isNew place) k
-          → length (cond b (cond c (seenAt k) (asParticipant (place k .who) ∷ seenAt k)) (seenAt k)) ≡ count (isNew place) k + only (b && not (some (standsAt place (place k .who)) k)) 1
+      go : (b c : Bool) → some (takesPartAt place (place k .who)) k ≡ c → length (seenAt k) ≡ count (isNew place) k
+          → length (cond b (cond c (seenAt k) (asParticipant (place k .who) ∷ seenAt k)) (seenAt k)) ≡ count (isNew place) k + only (b && not (some (takesPartAt place (place k .who)) k)) 1
       go false c e ih = omega arith
       go true false e ih = rw e (omega arith)
       go true true e ih = rw e (omega arith)

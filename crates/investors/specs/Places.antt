@@ -1,5 +1,5 @@
 -- What the private functions compute: the participants by place of the fills, 2 i being the buyer of fill i and 2 i + 1 its seller, and the
--- places whose participant stands at no earlier one. proofs/ shows that they number as many as the participants seen.
+-- places whose participant takes part at no earlier one. proofs/ shows that they number as many as the participants seen.
 use mathlib.Core.Bool.{Bool, false, cond, not, _&&_}
 use mathlib.Core.List.{List, []}
 use Prim.Native.Nat.{ℕ, _*_, _/_, _%_, min}
@@ -49,10 +49,10 @@ noPlace = record { moved = false; who = record { known = false; id = []; wallet 
 abbrev pub placeIn : List Place → ℕ → Place
 placeIn places k = getD places k noPlace
 
--- the same participant stands at place j, in a fill that moved
-unfoldable pub standsAt : (ℕ → Place) → Party → ℕ → Bool
-standsAt place a j = place j .moved && sameParty (place j .who) a
+-- the same participant takes part at place j, in a fill that moved
+unfoldable pub takesPartAt : (ℕ → Place) → Party → ℕ → Bool
+takesPartAt place a j = place j .moved && sameParty (place j .who) a
 
--- a place of a fill that moved, whose participant stands at no earlier such place
+-- a place of a fill that moved, whose participant takes part at no earlier such place
 unfoldable pub isNew : (ℕ → Place) → ℕ → Bool
-isNew place k = place k .moved && not (some (standsAt place (place k .who)) k)
+isNew place k = place k .moved && not (some (takesPartAt place (place k .who)) k)

@@ -11,7 +11,7 @@ ghost use Rattle.credit_math.specs.Limits.{maxOrders};
 ghost use Rattle.book.specs.Limits.{maxFills};
 ghost use Rattle.book.specs.Book.{noInvestor};
 ghost use Rattle.investors.specs.Participants.{distinctParticipants};
-ghost use Rattle.investors.specs.Places.{partyOf, sameParty, walletAt, placesOf, placeIn, standsAt, isNew};
+ghost use Rattle.investors.specs.Places.{partyOf, sameParty, walletAt, placesOf, placeIn, takesPartAt, isNew};
 use book::Fill;
 use book::MAX_FILLS;
 use book::Order;
@@ -183,11 +183,11 @@ fn count_new(places: [Place; MAX_PLACES], n: usize) -> u64
     new
 }
 
-// Whether p, place k, is of a fill that moved, and its participant stands at no earlier such place. The caller reads p, so that no places are
+// Whether p, place k, is of a fill that moved, and its participant takes part at no earlier such place. The caller reads p, so that no places are
 // copied for a fill that did not move.
 fn is_new(places: [Place; MAX_PLACES], k: usize, p: Place) -> bool
     requires { ⌜ k < 2 * maxFills ⌝ }
-    ensures { λ r. ⌜ r ≡ p .moved && not (some (standsAt (placeIn places) (p .who)) k) ⌝ }
+    ensures { λ r. ⌜ r ≡ p .moved && not (some (takesPartAt (placeIn places) (p .who)) k) ⌝ }
 {
     let who = p.who;
     if p.moved {
@@ -196,15 +196,15 @@ fn is_new(places: [Place; MAX_PLACES], k: usize, p: Place) -> bool
     false
 }
 
-// Whether a stands at a place before k, of a fill that moved.
+// Whether a takes part at a place before k, in a fill that moved.
 fn seen_before(places: [Place; MAX_PLACES], k: usize, a: Party) -> bool
     requires { ⌜ k < 2 * maxFills ⌝ }
-    ensures { λ r. ⌜ r ≡ some (standsAt (placeIn places) a) k ⌝ }
+    ensures { λ r. ⌜ r ≡ some (takesPartAt (placeIn places) a) k ⌝ }
 {
     let mut j = 0;
     while j < k {
         let q = places[j];
-        if stands_at(q, a) {
+        if takes_part_at(q, a) {
             return true;
         }
         j += 1;
@@ -212,7 +212,7 @@ fn seen_before(places: [Place; MAX_PLACES], k: usize, a: Party) -> bool
     false
 }
 
-fn stands_at(p: Place, a: Party) -> bool
+fn takes_part_at(p: Place, a: Party) -> bool
     ensures { λ r. ⌜ r ≡ p .moved && sameParty (p .who) a ⌝ }
 {
     let who = p.who;

@@ -6,7 +6,7 @@ ghost use lib.Count.{ones};
 ghost use lib.ListN.{length, take};
 ghost use Rattle.bytes.specs.Decimal.{maxDigits};
 ghost use Rattle.bytes.specs.Writing.{Writes, Puts};
-ghost use Rattle.events.specs.Events.{maxEvents, eventsIn, inFew};
+ghost use Rattle.events.specs.Events.{maxEvents, eventsIn, pairEvents};
 ghost use Rattle.listing.specs.Lines.{fields, recordLines, endLine, maxLetters, maxFigures, maxRest, maxLine, maxRecord};
 ghost use Rattle.listing.specs.Parts.{Short, rest, partsLine};
 use crate::words::Parts;
@@ -15,8 +15,8 @@ use bytes::writing::Written;
 use bytes::writing::put_bytes;
 use bytes::writing::put_dec;
 use bytes::writing::put_text;
+use events::EventPair;
 use events::Events;
-use events::Few;
 use events::Line;
 use events::MAX_EVENTS;
 
@@ -46,14 +46,14 @@ pub fn put_events(out: &mut [u8], number: u64, events: Events) -> Written
 }
 
 // The lines of a record with at most two events, likewise.
-pub fn put_few(out: &mut [u8], number: u64, few: Few) -> Written
-    ensures { λ r. ⌜ Writes (recordLines number (inFew few)) r (now (out .entry)) (now (out .exit)) × (maxRecord ≤ length (now (out .entry)) → r .refusal ≡ 0) ⌝ }
+pub fn put_pair(out: &mut [u8], number: u64, pair: EventPair) -> Written
+    ensures { λ r. ⌜ Writes (recordLines number (pairEvents pair)) r (now (out .entry)) (now (out .exit)) × (maxRecord ≤ length (now (out .entry)) → r .refusal ≡ 0) ⌝ }
 {
     if ROOM <= out.len() {
-        let len = put_few_lines(out, number, few);
+        let len = put_pair_lines(out, number, pair);
         return Written { refusal: 0, len };
     }
-    put_copied(out, number, few.all())
+    put_copied(out, number, pair.all())
 }
 
 // The same by way of a buffer, where out may be shorter than the lines.
@@ -126,19 +126,19 @@ fn put_lines(out: &mut [u8], number: u64, lines: [Line; MAX_EVENTS], n: usize) -
 }
 
 // `none`, or a line for each of at most two events.
-fn put_few_lines(out: &mut [u8], number: u64, few: Few) -> usize
+fn put_pair_lines(out: &mut [u8], number: u64, pair: EventPair) -> usize
     requires { ⌜ maxRecord ≤ length (now out) ⌝ }
-    ensures { λ r. ⌜ Puts (recordLines number (inFew few)) 0 r (now (out .entry)) (now (out .exit)) × (r ≤ maxRecord) ⌝ }
+    ensures { λ r. ⌜ Puts (recordLines number (pairEvents pair)) 0 r (now (out .entry)) (now (out .exit)) × (r ≤ maxRecord) ⌝ }
 {
-    if few.count == 0 {
+    if pair.count == 0 {
         return put_line(out, number, words::bare(words::NONE));
     }
-    let first = few.first;
+    let first = pair.first;
     let k = put_line(out, number, words::parts_of(first));
-    if few.count == 1 {
+    if pair.count == 1 {
         return k;
     }
-    let second = few.second;
+    let second = pair.second;
     k + put_line(&mut out[k..], number, words::parts_of(second))
 }
 

@@ -26,7 +26,7 @@ use Rattle.session_file.specs.Marks.{inPlace, noKind, headerKind, orderK
 use Rattle.session_file.specs.Fields.{Read, refused, header, order, call}
 use Rattle.session_file.specs.Reads.{shapeAt, readingRefusal, readNext, readsFrom, reads}
 use Rattle.session_file.specs.File.{State, start, fileRefusal, made, saidBy, saidOf}
-use Rattle.session_file.specs.Claims.{standing, madeAll, headersIn, rowsIn, callsIn, IsCourse, FileIsCourse, ClearedInFile}
+use Rattle.session_file.specs.Claims.{beforeEnd, madeAll, headersIn, rowsIn, callsIn, IsCourse, FileIsCourse, ClearedInFile}
 use Rattle.session_file.proofs.Reading.{kindRead, passed, read-whole, read-kind}
 
 -- ---- records in the order of their kinds, and records that let the file go on
@@ -38,20 +38,20 @@ abbrev pub Accepted : State → List Read → Type 0
 Accepted f [] = Unit
 Accepted f (x ∷ l) = (fileRefusal f x ≡ 0) × Accepted (made f x) l
 
--- the standing records of a file are both
-accepted-standing : (f : State) (l : List Read) → Accepted f (standing f l)
-accepted-standing f [] = tt
-accepted-standing f (x ∷ l) = go (accepted-standing (made f x) l) (eqb (fileRefusal f x) 0) refl
+-- the records of a file before the one that ends it are both
+accepted-before-end : (f : State) (l : List Read) → Accepted f (beforeEnd f l)
+accepted-before-end f [] = tt
+accepted-before-end f (x ∷ l) = go (accepted-before-end (made f x) l) (eqb (fileRefusal f x) 0) refl
   where
-    go : Accepted (made f x) (standing (made f x) l) → (t : Bool) → eqb (fileRefusal f x) 0 ≡ t → Accepted f (cond t (x ∷ standing (made f x) l) [])
+    go : Accepted (made f x) (beforeEnd (made f x) l) → (t : Bool) → eqb (fileRefusal f x) 0 ≡ t → Accepted f (cond t (x ∷ beforeEnd (made f x) l) [])
     go h true e = (eqb-true (fileRefusal f x) 0 e, h)
     go h false e = tt
 
-ordered-standing : (n before : ℕ) (rest : List ℕ) (f : State) → InOrder before (standing f (readsFrom n before rest))
+ordered-before-end : (n before : ℕ) (rest : List ℕ) (f : State) → InOrder before (beforeEnd f (readsFrom n before rest))
 unfolding readsFrom
-ordered-standing zero before rest f = tt
-ordered-standing (suc n) before rest f =
-    go (λ (g : State). ordered-standing n (shapeAt rest .kind) (drop (shapeAt rest .width) rest) g) (ltb 0 (length rest)) (eqb (fileRefusal f x) 0) refl
+ordered-before-end zero before rest f = tt
+ordered-before-end (suc n) before rest f =
+    go (λ (g : State). ordered-before-end n (shapeAt rest .kind) (drop (shapeAt rest .width) rest) g) (ltb 0 (length rest)) (eqb (fileRefusal f x) 0) refl
   where
     x : Read
     x = readNext before rest
@@ -59,8 +59,8 @@ ordered-standing (suc n) before rest f =
     later : List Read
     later = readsFrom n (shapeAt rest .kind) (drop (shapeAt rest .width) rest)
 
-    go : ((g : State) → InOrder (shapeAt rest .kind) (standing g later)) → (u t : Bool) → eqb (fileRefusal f x) 0 ≡ t
-        → InOrder before (standing f (cond u (x ∷ cond (eqb (readingRefusal before rest) 0) later []) []))
+    go : ((g : State) → InOrder (shapeAt rest .kind) (beforeEnd g later)) → (u t : Bool) → eqb (fileRefusal f x) 0 ≡ t
+        → InOrder before (beforeEnd f (cond u (x ∷ cond (eqb (readingRefusal before rest) 0) later []) []))
     go h false t e = tt
     go h true false e = rw e tt
     go h true true e =
@@ -68,7 +68,7 @@ ordered-standing (suc n) before rest f =
         let q : kindRead x ≡ shapeAt rest .kind = read-kind before rest z in
         rw (e, eq-eqb (readingRefusal before rest) 0 z) (
           ap (inPlace before) q ∙ passed before rest z .placed,
-          subst (λ (k : ℕ). InOrder k (standing (made f x) later)) (sym q) (h (made f x)),
+          subst (λ (k : ℕ). InOrder k (beforeEnd (made f x) later)) (sym q) (h (made f x)),
         )
 
 -- parts of such lists
@@ -204,18 +204,18 @@ course-from (header p g ∷ l) v a =
 course-from (order row ∷ l) v a = absurd (omega (arith, only-header orderKind (v .0)))
 course-from (call c ∷ l) v a = absurd (omega (arith, only-header callKind (v .0)))
 
-module _ (s : List ℕ) (l k : List Read) (e : standing start (reads s) ≡ l ++ k) where
+module _ (s : List ℕ) (l k : List Read) (e : beforeEnd start (reads s) ≡ l ++ k) where
   file-in-order : InOrder noKind (l ++ k)
-  file-in-order = subst (InOrder noKind) e (ordered-standing (length s) noKind s start)
+  file-in-order = subst (InOrder noKind) e (ordered-before-end (length s) noKind s start)
 
   file-accepted : Accepted start (l ++ k)
-  file-accepted = subst (Accepted start) e (accepted-standing start (reads s))
+  file-accepted = subst (Accepted start) e (accepted-before-end start (reads s))
 
 pub file-is-course : FileIsCourse
 file-is-course s l k e = course-from l (first-in-order noKind l k (file-in-order s l k e)) (first-accepted start l k (file-accepted s l k e))
 
 -- before a call there is an opening
-pub before-call : (s : List ℕ) (l k : List Read) (c : Call) → standing start (reads s) ≡ l ++ (call c ∷ k) → IsCourse l (madeAll start l)
+pub before-call : (s : List ℕ) (l k : List Read) (c : Call) → beforeEnd start (reads s) ≡ l ++ (call c ∷ k) → IsCourse l (madeAll start l)
 before-call s l k c e =
     ⊎-elim
     (λ (n : l ≡ []). absurd (omega (arith, only-header callKind (subst (λ (m : List Read). InOrder noKind (m ++ (call c ∷ k))) n (file-in-order s l (call c ∷ k) e) .0))))

@@ -23,10 +23,10 @@ use Rattle.auction_engine.specs.Call.{Call, screen, clear, allocate, exercise, 
 use Rattle.auction_engine.specs.Engine.{ownRefusal, refusal, events}
 use Rattle.auction_engine.specs.Screening.{screenLines, screenEvents, exclusionOf}
 use Rattle.auction_engine.specs.Clearing.{clearLines, outcome}
-use Rattle.auction_engine.specs.Matching.{overfull, allocateRefusal, fillEvents, allocateEvents, done, crank, phaseAfter}
+use Rattle.auction_engine.specs.Matching.{overfull, allocateRefusal, fillEvents, allocateEvents, done, afterFills, phaseAfter}
 use Rattle.auction_engine.specs.Rofr.{exerciseEvents, closeEvents}
 use Rattle.auction_engine.specs.Settlement.{settleEvents, skipEvents, finishEvents, expireEvents}
-use Rattle.auction_engine.proofs.Cranks.{events-fit}
+use Rattle.auction_engine.proofs.Fills.{events-fit}
 
 within : (s : Session) (c : Call) → refusal s c ≡ 0 → s .«fill_count» ≤ maxFills
 unfolding refusal limitsRefusal
@@ -48,7 +48,7 @@ room s now n z = not-true (overfull n s) (unless-zero _ 17 (check-zero _ 9 _ (ow
 
 allocate-few : (s : Session) (n : ℕ) → s .«fill_count» ≤ maxFills → overfull n s ≡ false → length (allocateEvents s n) ≤ maxEvents
 unfolding allocateEvents
-allocate-few s n h f = rw (length-append (fillEvents n s) (cond (done (crank n s)) (event.PhaseChanged (s .phase) (phaseAfter s) ∷ []) [])) (go (done (crank n s)))
+allocate-few s n h f = rw (length-append (fillEvents n s) (cond (done (afterFills n s)) (event.PhaseChanged (s .phase) (phaseAfter s) ∷ []) [])) (go (done (afterFills n s)))
   where
     go : (t : Bool) → length (fillEvents n s) + length (cond t (event.PhaseChanged (s .phase) (phaseAfter s) ∷ []) []) ≤ maxEvents
     go true = omega (arith, events-fit n s h f)

@@ -16,7 +16,7 @@ use Rattle.session_file.specs.declared.file.Place.{Place}
 use Rattle.session_file.specs.Fields.{Read}
 use Rattle.session_file.specs.Reads.{shapeAt, readingRefusal, readNext, readsFrom}
 use Rattle.session_file.specs.File.{State, state, unopened, fileRefusal, made, saidOf, told, left, numbered, lastLine, maxInput, listing}
-use Rattle.session_file.specs.Parts.{turnAt}
+use Rattle.session_file.specs.Parts.{afterRecord}
 use Rattle.session_file.proofs.Reading.{passed, read-whole, read-kind, made-state}
 
 -- n is at least the number of bytes left
@@ -80,10 +80,10 @@ module _ (s : List ℕ) (p : Place) (x : Session) (h : p .at < length s) where
   by-refusal : (A : Type 0) → (fileRefusal f r ≡ 0 → A) → (fileRefusal f r ≢ 0 → A) → A
   by-refusal A g e = ⊎-elim (λ (t : eqb (fileRefusal f r) 0 ≡ true). g (eqb-true _ 0 t)) (λ (t : eqb (fileRefusal f r) 0 ≡ false). e (eqb-false _ 0 t)) (tested (eqb (fileRefusal f r) 0))
 
-  pub onward : Onward s p (turnAt s p x .place)
-  unfolding turnAt
+  pub onward : Onward s p (afterRecord s p x .place)
+  unfolding afterRecord
   onward =
-      by-refusal (Onward s p (turnAt s p x .place))
+      by-refusal (Onward s p (afterRecord s p x .place))
       (λ z.
       let q = passed (p .stage) rest (read-whole (p .stage) rest f z) in
       rw (eq-eqb (fileRefusal f r) 0 z) (record { on = omega (arith, q .some); within = omega (arith, q .whole, length-drop (p .at) s) }))
@@ -97,10 +97,10 @@ module _ (s : List ℕ) (p : Place) (x : Session) (h : p .at < length s) where
       made-state f r (rw k (passed (p .stage) rest g .known)) ∙ ap (λ (i : ℕ). state i (made f r .session)) k
 
   -- the lines of the next record, and those that are left after it
-  pub lines-turn : (n number : ℕ) → linesAt (suc n) number s p x
-      ≡ recordLines number (turnAt s p x .said) ++ linesAt n (number + 1) s (turnAt s p x .place) (turnAt s p x .session)
-  unfolding turnAt
-  lines-turn n number =
+  pub lines-record : (n number : ℕ) → linesAt (suc n) number s p x
+      ≡ recordLines number (afterRecord s p x .said) ++ linesAt n (number + 1) s (afterRecord s p x .place) (afterRecord s p x .session)
+  unfolding afterRecord
+  lines-record n number =
       by-refusal _
       (λ z.
       lines-more n number (p .stage) rest f some z

@@ -21,7 +21,7 @@ use Rattle.auction_engine.specs.Session.{fillAt, clearing}
 use Rattle.auction_engine.specs.Call.{Call, screen, clear, allocate, exercise, close, settle, skip, finish, expire, argumentsRefusal}
 use Rattle.auction_engine.specs.Screening.{screenEvents}
 use Rattle.auction_engine.specs.Clearing.{outcome, clearLines}
-use Rattle.auction_engine.specs.Matching.{due, one, crank, done, fillEvents, allocateEvents}
+use Rattle.auction_engine.specs.Matching.{due, one, afterFills, done, fillEvents, allocateEvents}
 use Rattle.auction_engine.specs.Rofr.{exerciseEvents, closeEvents}
 use Rattle.auction_engine.specs.Settlement.{settleEvents, skipEvents, finishEvents, expireEvents}
 use Rattle.auction_engine.specs.Engine.{refusal, events}
@@ -33,7 +33,7 @@ use Rattle.session_file.specs.Marks.{noKind}
 use Rattle.session_file.specs.Fields.{Read, refused, header, order, call}
 use Rattle.session_file.specs.Reads.{shapeAt, recordAt, flagsRefusal, readingRefusal, readNext, readsFrom, reads}
 use Rattle.session_file.specs.File.{State, start, fileRefusal, made, saidBy, saidOf}
-use Rattle.session_file.specs.Claims.{standing, madeAll, callsIn, IsCourse, placeNumbers, RefusedByPlace}
+use Rattle.session_file.specs.Claims.{beforeEnd, madeAll, callsIn, IsCourse, placeNumbers, RefusedByPlace}
 use Rattle.session_file.proofs.Reading.{kindRead, passed, read-bad, read-kind}
 use Rattle.session_file.proofs.Course.{before-call}
 
@@ -156,8 +156,8 @@ never-said : (s : Session) (c : Call) (n : ℕ) → events s c ≡ Refused n ∷
 unfolding events screenEvents clearLines allocateEvents fillEvents exerciseEvents closeEvents settleEvents skipEvents finishEvents expireEvents
 never-said s (screen now i side verdict hasId id) n q = screen-line (eqb (s .phase) clearing) _ _ _ n q
 never-said s (clear now) n q = clear-line (eqb (outcome s .failed) 0) _ _ _ _ _ n _ _ q
-never-said s (allocate now zero) n q = allocate-line false (done (crank zero s)) 0 0 0 0 _ _ n [] q
-never-said s (allocate now (suc m)) n q = allocate-line (due s) (done (crank (suc m) s)) _ _ _ _ _ _ n (fillEvents m (one s)) q
+never-said s (allocate now zero) n q = allocate-line false (done (afterFills zero s)) 0 0 0 0 _ _ n [] q
+never-said s (allocate now (suc m)) n q = allocate-line (due s) (done (afterFills (suc m) s)) _ _ _ _ _ _ n (fillEvents m (one s)) q
 never-said s (exercise now issuer i qty) n q = never cc
 never-said s (close now caller) n q = never cc
 never-said s (settle i) n q = settle-line (eqb (fillAt s i .qty) 0) _ _ _ n q
@@ -166,25 +166,25 @@ never-said s (finish now) n q = never cc
 never-said s (expire now) n q = never cc
 
 -- ---- a call of a file
--- records that stand, and what stands after them
-standing-more : (f : State) (l k : List Read) → standing f l ≡ l → standing f (l ++ k) ≡ l ++ standing (madeAll f l) k
-standing-more f [] k e = refl
-standing-more f (x ∷ l) k e = go (eqb (fileRefusal f x) 0) (standing-more (made f x) l k) e
+-- records that let the file go on, and what comes after them
+before-end-more : (f : State) (l k : List Read) → beforeEnd f l ≡ l → beforeEnd f (l ++ k) ≡ l ++ beforeEnd (madeAll f l) k
+before-end-more f [] k e = refl
+before-end-more f (x ∷ l) k e = go (eqb (fileRefusal f x) 0) (before-end-more (made f x) l k) e
   where
-    go : (t : Bool) → (standing (made f x) l ≡ l → standing (made f x) (l ++ k) ≡ l ++ standing (madeAll (made f x) l) k)
-        → cond t (x ∷ standing (made f x) l) [] ≡ x ∷ l → cond t (x ∷ standing (made f x) (l ++ k)) [] ≡ x ∷ (l ++ standing (madeAll (made f x) l) k)
+    go : (t : Bool) → (beforeEnd (made f x) l ≡ l → beforeEnd (made f x) (l ++ k) ≡ l ++ beforeEnd (madeAll (made f x) l) k)
+        → cond t (x ∷ beforeEnd (made f x) l) [] ≡ x ∷ l → cond t (x ∷ beforeEnd (made f x) (l ++ k)) [] ≡ x ∷ (l ++ beforeEnd (madeAll (made f x) l) k)
     go true ih e = ap (λ (m : List Read). x ∷ m) (ih cc)
     go false ih e = cc
 
 -- the session of each call that lets the file go on passes the checks of any call
-call-passes : (s : List ℕ) (l k : List Read) (c : Call) → reads s ≡ l ++ (call c ∷ k) → standing start l ≡ l → fileRefusal (madeAll start l) (call c) ≡ 0
+call-passes : (s : List ℕ) (l k : List Read) (c : Call) → reads s ≡ l ++ (call c ∷ k) → beforeEnd start l ≡ l → fileRefusal (madeAll start l) (call c) ≡ 0
     → Passes (madeAll start l .session)
 call-passes s l k c e h z =
     let f : State = madeAll start l in
-    let e′ : standing start (reads s) ≡ l ++ (call c ∷ standing (made f (call c)) k) =
-    ap (standing start) e ∙ standing-more start l (call c ∷ k) h
-    ∙ ap (λ (t : Bool). l ++ cond t (call c ∷ standing (made f (call c)) k) []) (eq-eqb (fileRefusal f (call c)) 0 z) in
-    let o : IsCourse l f = before-call s l (standing (made f (call c)) k) c e′ in
+    let e′ : beforeEnd start (reads s) ≡ l ++ (call c ∷ beforeEnd (made f (call c)) k) =
+    ap (beforeEnd start) e ∙ before-end-more start l (call c ∷ k) h
+    ∙ ap (λ (t : Bool). l ++ cond t (call c ∷ beforeEnd (made f (call c)) k) []) (eq-eqb (fileRefusal f (call c)) 0 z) in
+    let o : IsCourse l f = before-call s l (beforeEnd (made f (call c)) k) c e′ in
     subst Passes (sym (o .session-is)) (checks-pass (o .opening) (callsIn l))
 
 -- so its number is of its row

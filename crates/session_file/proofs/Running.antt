@@ -17,19 +17,19 @@ use Rattle.bytes.proofs.Spliced.{puts-none, puts-puts}
 use Rattle.auction_engine.specs.declared.Session.{Session}
 use Rattle.session_file.specs.declared.file.Place.{Place}
 use Rattle.session_file.specs.File.{state, unopened, lastLine, maxInput, listing}
-use Rattle.session_file.specs.Parts.{turnAt}
+use Rattle.session_file.specs.Parts.{afterRecord}
 use Rattle.session_file.specs.Steps.{Ran}
-use Rattle.session_file.proofs.Lines.{linesAt, lines-start, lines-end, lines-turn, Onward, onward}
+use Rattle.session_file.proofs.Lines.{linesAt, lines-start, lines-end, lines-record, Onward, onward}
 use Rattle.session_file.proofs.Lent.{fits, longer, lent, to-end, puts-lent, length-lent}
 
 -- ---- what is left to list, while bytes are left
 abbrev nextLines : (number : ℕ) (s : List ℕ) → Place → Session → List ℕ
-nextLines number s p x = recordLines number (turnAt s p x .said)
+nextLines number s p x = recordLines number (afterRecord s p x .said)
 
 more-left : (n number : ℕ) (s : List ℕ) (p : Place) (x : Session) → p .at < length s → length s ≤ p .at + n
-    → (m : ℕ) × (n ≡ suc m) × (linesAt n number s p x ≡ nextLines number s p x ++ linesAt m (number + 1) s (turnAt s p x .place) (turnAt s p x .session))
+    → (m : ℕ) × (n ≡ suc m) × (linesAt n number s p x ≡ nextLines number s p x ++ linesAt m (number + 1) s (afterRecord s p x .place) (afterRecord s p x .session))
 more-left zero number s p x h e = absurd (omega arith)
-more-left (suc m) number s p x h e = (m, refl, lines-turn s p x h m number)
+more-left (suc m) number s p x h e = (m, refl, lines-record s p x h m number)
 
 -- ---- a text written so far, up to at; the file at place p with session x; number records read
 pub record Running (s before : List ℕ) (p : Place) (x : Session) (number at : ℕ) (after : List ℕ) : Type 0 where
@@ -91,7 +91,7 @@ module _ {s e : List ℕ} {p : Place} {x : Session} {number at : ℕ} {e′ : Li
 
   -- a record's lines are written
   running-more : {w : Written} → p .at < length s → Writes (nextLines number s p x) w (take k (drop at e′)) y → w .refusal ≡ 0
-      → Running s e (turnAt s p x .place) (turnAt s p x .session) (number + 1) (at + w .len) (lent at k e′ y)
+      → Running s e (afterRecord s p x .place) (afterRecord s p x .session) (number + 1) (at + w .len) (lent at k e′ y)
   running-more {w} h d z =
       let f = more-left (v .fuel) number s p x h (v .enough) in
       let o = onward s p x h in
@@ -139,17 +139,17 @@ module _ {s e : List ℕ} {p : Place} {x : Session} {number at : ℕ} {e′ : Li
 
 -- ---- the record at p with session x: the session after it, what was said of it was written after at, and w was answered
 pub record Wrote (s e′ : List ℕ) (p : Place) (x x′ : Session) (number at : ℕ) (w : Written) (e″ : List ℕ) : Type 0 where
-  pub runs : x′ ≡ turnAt s p x .session
+  pub runs : x′ ≡ afterRecord s p x .session
   pub part : List ℕ
   pub same-part : length part ≡ length (take (length e′ - at) (drop at e′))
-  pub writes : Writes (recordLines number (turnAt s p x .said)) w (take (length e′ - at) (drop at e′)) part
+  pub writes : Writes (recordLines number (afterRecord s p x .said)) w (take (length e′ - at) (drop at e′)) part
   pub left : e″ ≡ lent at (length e′ - at) e′ part
 
 module _ {s e e′ e″ : List ℕ} {p : Place} {x x′ : Session} {number at : ℕ} {w : Written} (v : Running s e p x number at e′) (d : Wrote s e′ p x x′ number at w e″) where
   pub wrote-length : length e″ ≡ length e
   wrote-length = rw (d .left) (running-length v (length e′ - at) refl (d .part) (d .same-part))
 
-  pub wrote-more : p .at < length s → w .refusal ≡ 0 → (p′ : Place) → p′ ≡ turnAt s p x .place → Running s e p′ x′ (number + 1) (at + w .len) e″
+  pub wrote-more : p .at < length s → w .refusal ≡ 0 → (p′ : Place) → p′ ≡ afterRecord s p x .place → Running s e p′ x′ (number + 1) (at + w .len) e″
   wrote-more h z p′ is = rw (d .left, d .runs, is) (running-more v (length e′ - at) refl (d .part) (d .same-part) h (d .writes) z)
 
   pub wrote-long : p .at < length s → w .refusal ≢ 0 → Ran s w e e″

@@ -17,9 +17,9 @@ use Rattle.book.specs.Book.{listed}
 use Rattle.book.specs.declared.Params.{Params}
 use Rattle.book.specs.declared.Given.{Given}
 use Rattle.book.specs.declared.Row.{Row}
-use Rattle.events.specs.Events.{few, inFew, packed, eventsIn}
+use Rattle.events.specs.Events.{eventPair, pairEvents, packed, eventsIn}
 use Rattle.events.specs.declared.Event.the-variants.{Opened, Ordered, Refused}
-use Rattle.events.proofs.Packed.{events-packed, few-packed}
+use Rattle.events.proofs.Packed.{events-packed, pair-packed}
 use Rattle.auction_engine.specs.declared.Session.{Session}
 use Rattle.auction_engine.specs.declared.Answer.{Answer}
 use Rattle.auction_engine.specs.declared.changes.Change.{Change}
@@ -40,7 +40,7 @@ use Rattle.session_file.specs.Reads.{markAt, shapeAt, recordAt, readingR
 use Rattle.session_file.specs.File.{State, state, fileRefusal, made, saidBy, saidOf}
 use Rattle.session_file.specs.Calls.{recordOf, fieldsIn}
 use Rattle.session_file.specs.Steps.{recordIn, placeAfter, earlyRefusal, changeIn, stops, stepOf, saidAll}
-use Rattle.session_file.specs.Parts.{turnAt}
+use Rattle.session_file.specs.Parts.{afterRecord}
 use Rattle.session_file.proofs.FewEvents.{few-events}
 use Rattle.session_file.proofs.Reading.{kindRead, fields-kind, passed, read-good, read-bad, read-whole, read-kind}
 
@@ -77,9 +77,9 @@ unfolding applied
 applied-is x c = rw (known c, call-of c)
 
 -- ---- what is said of an answer and of a change
-said-change : (x : Session) (c : Change) → c .refusal ≡ 0 → inFew (c .events) ≡ eventsIn (saidAll (madeOf x c))
+said-change : (x : Session) (c : Change) → c .refusal ≡ 0 → pairEvents (c .events) ≡ eventsIn (saidAll (madeOf x c))
 unfolding saidAll
-said-change x c z = rw (eq-eqb (c .refusal) 0 z) (sym (few-packed (c .events)))
+said-change x c z = rw (eq-eqb (c .refusal) 0 z) (sym (pair-packed (c .events)))
 
 said-answer : (x : Session) (stage : ℕ) (c : Call) → eventsIn (saidAll (answer x c)) ≡ saidBy (state stage x) (call c)
 unfolding saidAll saidBy answer
@@ -118,7 +118,7 @@ pub record Stepped (x : Session) (stage : ℕ) (r : Read) (f : Fields) (c : Chan
       × (eventsIn (saidAll (applied x (f .call))) ≡ saidOf (state stage x) r)
   pub by-change : t .refusal ≡ 0 → t .opens ≡ false → c .undecided ≡ false
       → (changed x c ≡ cond (eqb (fileRefusal (state stage x) r) 0) (made (state stage x) r .session) x)
-      × (inFew (c .events) ≡ saidOf (state stage x) r)
+      × (pairEvents (c .events) ≡ saidOf (state stage x) r)
 
 -- the places of any record's change are among those of the arrays
 change-within : (x : Session) (f : Fields) → (changeIn x f .«order_at» < maxOrders) × (changeIn x f .«fill_at» < maxFills)
@@ -183,7 +183,7 @@ module _ (x : Session) (stage : ℕ) where
   order-decided row = go (eqb (orderRefusal x row) 0)
     where
       go : (t : Bool)
-          → cond t (writing (withOrder x row) false (x .«order_count») (listed row) 0 (fillAt x 0) 0 (few (Ordered (x .«order_count») ∷ []))) (unchanged x (orderRefusal x row)) .undecided ≡ false
+          → cond t (writing (withOrder x row) false (x .«order_count») (listed row) 0 (fillAt x 0) 0 (eventPair (Ordered (x .«order_count») ∷ []))) (unchanged x (orderRefusal x row)) .undecided ≡ false
       go true = refl
       go false = refl
 
@@ -192,7 +192,7 @@ module _ (x : Session) (stage : ℕ) where
   order-number row =
       ⊎-elim (λ (t : eqb (orderRefusal x row) 0 ≡ true). rw t (sym (eqb-true _ 0 t))) (λ (t : eqb (orderRefusal x row) 0 ≡ false). rw t) (tested (eqb (orderRefusal x row) 0))
 
-  order-said : (row : Row) → orderRefusal x row ≡ 0 → inFew (orderChange x row .events) ≡ Ordered (x .«order_count») ∷ []
+  order-said : (row : Row) → orderRefusal x row ≡ 0 → pairEvents (orderChange x row .events) ≡ Ordered (x .«order_count») ∷ []
   unfolding orderChange
   order-said row z = rw (eq-eqb (orderRefusal x row) 0 z)
 
@@ -266,8 +266,8 @@ module _ (s : List ℕ) (p : Place) (x : Session) {r : Record} {c : Change} {t :
   kind-is = rw is (kind-in (fieldsOf (markAt (drop (p .at) s)) (recordAt (drop (p .at) s))) ∙ fields-kind (markAt (drop (p .at) s)) (recordAt (drop (p .at) s)))
 
   -- the next place
-  pub code-place : placeAfter p (r .fields .kind) (r .width) (t .ends) (length s) ≡ turnAt s p x .place
-  unfolding placeAfter turnAt
+  pub code-place : placeAfter p (r .fields .kind) (r .width) (t .ends) (length s) ≡ afterRecord s p x .place
+  unfolding placeAfter afterRecord
   code-place = rw (code-stepped .ends, kind-is, is) (cond-not (eqb (fileRefusal (state (p .stage) x) (readNext (p .stage) (drop (p .at) s))) 0) _ _)
 
   pub code-fits : p .at ≤ length s → t .ends ≡ false → p .at + r .width ≤ length s

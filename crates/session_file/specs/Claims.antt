@@ -22,9 +22,9 @@ use Rattle.session_file.specs.Reads.{reads}
 use Rattle.session_file.specs.File.{State, start, fileRefusal, made, saidOf}
 
 -- the records before the one that ends the file
-abbrev pub standing : State → List Read → List Read
-standing f [] = []
-standing f (x ∷ l) = cond (eqb (fileRefusal f x) 0) (x ∷ standing (made f x) l) []
+abbrev pub beforeEnd : State → List Read → List Read
+beforeEnd f [] = []
+beforeEnd f (x ∷ l) = cond (eqb (fileRefusal f x) 0) (x ∷ beforeEnd (made f x) l) []
 
 -- what a file carries on after records that let it go on
 abbrev pub madeAll : State → List Read → State
@@ -67,7 +67,7 @@ pub record IsCourse (l : List Read) (f : State) : Type 0 where
 
 -- the records of a file up to any that lets it go on, if any, are a course
 abbrev pub FileIsCourse : Type 0
-FileIsCourse = (s : List ℕ) (l k : List Read) → standing start (reads s) ≡ l ++ k → (l ≡ []) ⊎ IsCourse l (madeAll start l)
+FileIsCourse = (s : List ℕ) (l k : List Read) → beforeEnd start (reads s) ≡ l ++ k → (l ≡ []) ⊎ IsCourse l (madeAll start l)
 
 -- 'is just cleared when a clear hands it back with a `clear` line': from there the calls of the file are a list that demand 3 speaks of
 pub record StartsDemand3 (f : State) (k : List Read) : Type 0 where
@@ -77,7 +77,7 @@ pub record StartsDemand3 (f : State) (k : List Read) : Type 0 where
 abbrev pub ClearedInFile : Type 0
 ClearedInFile =
     (s : List ℕ) (l k : List Read) (now : ℤ) (price volume reserve reference : ℕ) (others : List Event)
-    → standing start (reads s) ≡ l ++ (call (clear now) ∷ k)
+    → beforeEnd start (reads s) ≡ l ++ (call (clear now) ∷ k)
     → saidOf (madeAll start l) (call (clear now)) ≡ Cleared price volume reserve reference ∷ others
     → StartsDemand3 (made (madeAll start l) (call (clear now))) k
 
@@ -92,5 +92,5 @@ placeNumbers (call c) = cond (eqb (argumentsRefusal c) 0) (numbersOf c) (4 ∷ [
 -- each `refused R` line of a file has a number of its place: of the records that let the file go on, and of the one that ends it
 abbrev pub RefusedByPlace : Type 0
 RefusedByPlace =
-    (s : List ℕ) (l k : List Read) (x : Read) (number : ℕ) → reads s ≡ l ++ (x ∷ k) → standing start l ≡ l
+    (s : List ℕ) (l k : List Read) (x : Read) (number : ℕ) → reads s ≡ l ++ (x ∷ k) → beforeEnd start l ≡ l
     → saidOf (madeAll start l) x ≡ Refused number ∷ [] → Member number (placeNumbers x)

@@ -4,7 +4,7 @@ ghost use mathlib.Core.Bool.{false};
 ghost use mathlib.Core.List.{[], _∷_};
 ghost use Prim.Native.Nat.{_+_, _<_, _^_};
 ghost use Rattle.session_file.specs.File.{unopened};
-ghost use Rattle.events.specs.Events.{few};
+ghost use Rattle.events.specs.Events.{eventPair};
 ghost use Rattle.events.specs.declared.Event.the-variants.{Opened, Refused};
 ghost use Rattle.session_file.specs.Steps.{placeAfter, earlyRefusal, stepOf, saidAll};
 use crate::fields::Fields;
@@ -15,8 +15,8 @@ use auction_engine::opening;
 use book::Given;
 use book::Params;
 use events::Event;
+use events::EventPair;
 use events::Events;
-use events::Few;
 use laws::checks::both;
 
 // Where a file stands: the place of its next record, and the kind of the record before.
@@ -119,16 +119,16 @@ fn early_refusal(refusal: u8, f: Fields) -> u8
     }
 }
 
-pub(crate) fn refused(number: u8) -> Few
-    ensures { λ r. ⌜ r ≡ few (Refused number ∷ []) ⌝ }
+pub(crate) fn refused(number: u8) -> EventPair
+    ensures { λ r. ⌜ r ≡ eventPair (Refused number ∷ []) ⌝ }
 {
-    Few::one(Event::Refused(number))
+    EventPair::one(Event::Refused(number))
 }
 
-pub(crate) fn opened() -> Few
-    ensures { λ r. ⌜ r ≡ few (Opened ∷ []) ⌝ }
+pub(crate) fn opened() -> EventPair
+    ensures { λ r. ⌜ r ≡ eventPair (Opened ∷ []) ⌝ }
 {
-    Few::one(Event::Opened)
+    EventPair::one(Event::Opened)
 }
 
 // What is said of an answer: the refusal, or else the events.

@@ -67,10 +67,10 @@ fn run_file(input: &[u8], out: &mut [u8]) -> Written
         let change = session.change(f.kind == records::ORDER, f.row, f.call);
         let step = file::step_of(r.refusal, f, change.refusal);
         let written = if step.refusal != 0 {
-            listing::put_few(&mut out[at..], number, file::refused(step.refusal))
+            listing::put_pair(&mut out[at..], number, file::refused(step.refusal))
         } else if step.opens {
             session = Session::new(f.params, f.given);
-            listing::put_few(&mut out[at..], number, file::opened())
+            listing::put_pair(&mut out[at..], number, file::opened())
         } else if change.undecided {
             let a = session.apply(f.call);
             session = a.session;
@@ -86,7 +86,7 @@ fn run_file(input: &[u8], out: &mut [u8]) -> Written
             session.fills_settled = change.fills_settled;
             session.skipped_fills = change.skipped_fills;
             session.order_count = change.order_count;
-            listing::put_few(&mut out[at..], number, change.events)
+            listing::put_pair(&mut out[at..], number, change.events)
         };
         if written.refusal != 0 {
             return written;

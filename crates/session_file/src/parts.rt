@@ -4,7 +4,7 @@ ghost use Prim.Native.Nat.{_<_};
 ghost use lib.ListN.{length};
 ghost use mathlib.Core.Bool.{false};
 ghost use Rattle.session_file.specs.Parts.{begun, PartPut};
-ghost use Rattle.session_file.specs.PartSteps.{wholeRefused, NextOf, RecordNext, turnOf};
+ghost use Rattle.session_file.specs.PartSteps.{wholeRefused, NextOf, RecordNext, handledBy};
 use crate::fields;
 use crate::fields::Fields;
 use crate::file;
@@ -18,7 +18,7 @@ use events::Event;
 use events::Events;
 
 // Where a listing stands: the file's place and session, and the number of the next record.
-pub struct Standing {
+pub struct Cursor {
     pub place: Place,
     pub number: u64,
     // 26 is to be said of the whole input.
@@ -29,12 +29,12 @@ pub struct Standing {
 }
 
 // Before the first part. The caller says whether its input was longer than MAX_INPUT.
-pub fn begin(too_long: bool) -> Standing
+pub fn begin(too_long: bool) -> Cursor
     ensures { λ r. ⌜ r ≡ begun «too_long» ⌝ }
 {
     let place = Place { at: 0, stage: 0 };
     let session = file::unopened();
-    Standing {
+    Cursor {
         place,
         number: 0,
         too_long,
@@ -46,22 +46,19 @@ pub fn begin(too_long: bool) -> Standing
 // A part: what its writer answered, and where the listing then stands.
 pub struct Part {
     pub written: Written,
-    pub standing: Standing,
+    pub cursor: Cursor,
 }
 
 // The next part at the start of out, and nothing once the last line was put; where it is longer than out, 27, and the listing stands where it stood.
-pub fn put_next(input: &[u8], s: Standing, out: &mut [u8]) -> Part
+pub fn put_next(input: &[u8], s: Cursor, out: &mut [u8]) -> Part
     ensures { λ r. ⌜ PartPut (now (input .entry)) s r (now (out .entry)) (now (out .exit)) ⌝ }
 {
     if s.ended {
         let written = Written { refusal: 0, len: 0 };
-        return Part {
-            written,
-            standing: s,
-        };
+        return Part { written, cursor: s };
     }
     let next = next_of(input, s);
-    let written = if next.standing.ended {
+    let written = if next.cursor.ended {
         listing::put_end(
             out,
             s.place.stage != records::NO_KIND,
@@ -72,22 +69,19 @@ pub fn put_next(input: &[u8], s: Standing, out: &mut [u8]) -> Part
         listing::put_events(out, s.number, next.said)
     };
     if written.refusal != 0 {
-        return Part {
-            written,
-            standing: s,
-        };
+        return Part { written, cursor: s };
     }
-    let standing = next.standing;
-    Part { written, standing }
+    let cursor = next.cursor;
+    Part { written, cursor }
 }
 
 // What is said next, if anything but the last line, and where the listing then stands.
 struct Next {
     said: Events,
-    standing: Standing,
+    cursor: Cursor,
 }
 
-fn next_of(input: &[u8], s: Standing) -> Next
+fn next_of(input: &[u8], s: Cursor) -> Next
     requires { ⌜ s .ended ≡ false ⌝ }
     ensures { λ r. ⌜ NextOf (now (input .entry)) s r ⌝ }
 {
@@ -97,31 +91,31 @@ fn next_of(input: &[u8], s: Standing) -> Next
     if s.place.at < input.len() {
         return record_next(input, s);
     }
-    let mut standing = s;
-    standing.ended = true;
+    let mut cursor = s;
+    cursor.ended = true;
     let said = Events::none();
-    Next { said, standing }
+    Next { said, cursor }
 }
 
 // 26 is said of the whole input, and nothing of it is read.
-fn whole_refused(s: Standing, end: usize) -> Next
+fn whole_refused(s: Cursor, end: usize) -> Next
     ensures { λ r. ⌜ r ≡ wholeRefused s end ⌝ }
 {
     let none = Events::none();
     let said = none.push(Event::Refused(refusals::INPUT_TOO_LONG));
-    let mut standing = s;
+    let mut cursor = s;
     let place = Place {
         at: end,
         stage: s.place.stage,
     };
-    standing.place = place;
-    standing.number = std::num::wrapping_add_u64(s.number, 1);
-    standing.too_long = false;
-    Next { said, standing }
+    cursor.place = place;
+    cursor.number = std::num::wrapping_add_u64(s.number, 1);
+    cursor.too_long = false;
+    Next { said, cursor }
 }
 
 // The next record.
-fn record_next(input: &[u8], s: Standing) -> Next
+fn record_next(input: &[u8], s: Cursor) -> Next
     requires { ⌜ s .place .at < length (now input) ⌝ }
     ensures { λ r. ⌜ RecordNext (now (input .entry)) s r ⌝ }
 {
@@ -131,53 +125,53 @@ fn record_next(input: &[u8], s: Standing) -> Next
     let f = r.fields;
     let change = session.change(f.kind == records::ORDER, f.row, f.call);
     let step = file::step_of(r.refusal, f, change.refusal);
-    let turn = turn_of(session, step, change, f);
-    let said = turn.said;
-    let after = turn.session;
-    let standing = Standing {
+    let handled = handle(session, step, change, f);
+    let said = handled.said;
+    let after = handled.session;
+    let cursor = Cursor {
         place: file::place_after(place, f.kind, r.width, step.ends, input.len()),
         number: std::num::wrapping_add_u64(s.number, 1),
         too_long: s.too_long,
         ended: s.ended,
         session: after,
     };
-    Next { said, standing }
+    Next { said, cursor }
 }
 
 // The session after a record, and what is said of it.
-struct Turned {
+struct Handled {
     session: Session,
     said: Events,
 }
 
-fn turn_of(session: Session, step: Step, change: Change, f: Fields) -> Turned
-    ensures { λ r. ⌜ r ≡ turnOf session step change f ⌝ }
+fn handle(session: Session, step: Step, change: Change, f: Fields) -> Handled
+    ensures { λ r. ⌜ r ≡ handledBy session step change f ⌝ }
 {
     if step.refusal != 0 {
-        let few = file::refused(step.refusal);
-        return Turned {
+        let pair = file::refused(step.refusal);
+        return Handled {
             session,
-            said: few.all(),
+            said: pair.all(),
         };
     }
     if step.opens {
-        let few = file::opened();
-        return Turned {
+        let pair = file::opened();
+        return Handled {
             session: Session::new(f.params, f.given),
-            said: few.all(),
+            said: pair.all(),
         };
     }
     if change.undecided {
         let a = session.apply(f.call);
         let after = a.session;
-        return Turned {
+        return Handled {
             session: after,
             said: file::said_all(a),
         };
     }
-    let few = change.events;
-    Turned {
+    let pair = change.events;
+    Handled {
         session: session.changed(change),
-        said: few.all(),
+        said: pair.all(),
     }
 }

@@ -78,7 +78,7 @@ module _ (n i : ℕ) where
       only : {a : ℕ} → a ≤ 0 → a ≡ 0
       only g = omega arith
 
--- a turn: quotient q and remainder r so far, divisor d, next digit b, and s the remainder with b behind it
+-- a step: quotient q and remainder r so far, divisor d, next digit b, and s the remainder with b behind it
 module _ (q r d b s : ℕ) (down : s ≡ 2 * r + b) where
   -- the divisor does not go into s: the quotient's next digit is 0
   pub digit-zero : (q′ : ℕ) → q′ ≡ 2 * q + 0 → q′ * d + s ≡ 2 * (q * d + r) + b

@@ -31,9 +31,9 @@ pub record Divided (n d : ℕ) (r : Division) : Type 0 where
   pub quotient : value (r .quotient) ≡ n / d
   pub rest : value (r .rest) ≡ n % d
 
--- what a turn of the long division asks, of a quotient q and a remainder r of the digits so far, a divisor d and the next digit b:
+-- what a step of the long division asks, of a quotient q and a remainder r of the digits so far, a divisor d and the next digit b:
 -- the remainder is below the divisor, twice the divisor fits two words, and so does the number so far
-pub record Turn (q r d b : ℕ) : Type 0 where
+pub record Partway (q r d b : ℕ) : Type 0 where
   pub below : r < d
   pub twice : 2 * d ≤ modulus
   pub digit : b < 2

@@ -2,7 +2,7 @@
 ghost use mathlib.Core.Path.{_≡_};
 ghost use Prim.Native.Nat.{_+_, _-_, _*_, _/_, _%_, _^_, _<_, _≤_, min};
 ghost use lib.Dec.{ltb, eqb};
-ghost use Rattle.wide.specs.Value.{value, modulus, apart, bitLength, Divided, Turn};
+ghost use Rattle.wide.specs.Value.{value, modulus, apart, bitLength, Divided, Partway};
 
 pub struct Wide {
     pub hi: u64,
@@ -161,14 +161,14 @@ fn long_division(n: Wide, d: Wide) -> Division
     while 0 < left {
         left -= 1;
         let b = bit(n, left);
-        p = turn(p, d, b);
+        p = bring_down(p, d, b);
     }
     p
 }
 
-// One turn: the digit b is brought down.
-fn turn(p: Division, d: Wide, b: u64) -> Division
-    requires { ⌜ Turn (value (p .quotient)) (value (p .rest)) (value d) b ⌝ }
+// One step: the digit b is brought down.
+fn bring_down(p: Division, d: Wide, b: u64) -> Division
+    requires { ⌜ Partway (value (p .quotient)) (value (p .rest)) (value d) b ⌝ }
     ensures { λ r. ⌜ (value (r .rest) < value d) × (value (r .quotient) * value d + value (r .rest) ≡ 2 * (value (p .quotient) * value d + value (p .rest)) + b) ⌝ }
 {
     let rest = double(p.rest, b);

@@ -9,7 +9,7 @@ use lib.ListN.{length, drop}
 use borrow.Author.Needs.{needs}
 use Rattle.session_file.specs.declared.file.Place.{Place}
 use Rattle.session_file.specs.Reads.{readNext}
-use Rattle.session_file.specs.Parts.{turnAt}
+use Rattle.session_file.specs.Parts.{afterRecord}
 use Rattle.session_file.proofs.Lines.{onward}
 use Rattle.session_file.proofs.Stepping.{Stepped, code-stepped, code-place, code-fits}
 use Rattle.session_file.proofs.Running.{Running, running-start, running-length, running-last, Wrote, wrote-length, wrote-more, wrote-long}
@@ -39,7 +39,7 @@ stepped c =
 wrote : (c : tie.Joined2 Inv-loop μ-loop)
     → let l = c .before .before .before .before .before .before .before .before .before .loop in
     Wrote (input (c .before .before)) (l .out) (l .place) (l .session) (c .if2 .session) (l .number) (l .at) (c .if2 .written) (c .if2 .out)
-unfolding turnAt
+unfolding afterRecord
 wrote c =
     let s = stepped (c .before .before) in
     ⊎-elim
@@ -100,38 +100,38 @@ change-requires c κs = tt
 step-of-requires : tie.Need-step-of-requires Inv-loop μ-loop
 step-of-requires c κs = tt
 
-sub-put-few : tie.Need-sub-put-few Inv-loop μ-loop
-sub-put-few c = let v = c .before .before .before .before .before .before .before .before .before .loop .inv in omega (arith, v .room, v .same)
+sub-put-pair : tie.Need-sub-put-pair Inv-loop μ-loop
+sub-put-pair c = let v = c .before .before .before .before .before .before .before .before .before .loop .inv in omega (arith, v .room, v .same)
 
-part-put-few-start : tie.Need-part-put-few-start Inv-loop μ-loop
-part-put-few-start c = let v = c .before .before .before .before .before .before .before .before .before .loop .inv in omega (arith, v .room, v .same)
+part-put-pair-start : tie.Need-part-put-pair-start Inv-loop μ-loop
+part-put-pair-start c = let v = c .before .before .before .before .before .before .before .before .before .loop .inv in omega (arith, v .room, v .same)
 
-part-put-few-end : tie.Need-part-put-few-end Inv-loop μ-loop
-part-put-few-end c = search needs
+part-put-pair-end : tie.Need-part-put-pair-end Inv-loop μ-loop
+part-put-pair-end c = search needs
 
 refused-requires : tie.Need-refused-requires Inv-loop μ-loop
 refused-requires c κs = tt
 
-put-few-requires : tie.Need-put-few-requires Inv-loop μ-loop
-put-few-requires c κs = tt
+put-pair-requires : tie.Need-put-pair-requires Inv-loop μ-loop
+put-pair-requires c κs = tt
 
 new-requires : tie.Need-new-requires Inv-loop μ-loop
 new-requires c κs = tt
 
-sub-put-few-2 : tie.Need-sub-put-few-2 Inv-loop μ-loop
-sub-put-few-2 c = let v = c .before .before .before .before .before .before .before .before .before .before .before .loop .inv in omega (arith, v .room, v .same)
+sub-put-pair-2 : tie.Need-sub-put-pair-2 Inv-loop μ-loop
+sub-put-pair-2 c = let v = c .before .before .before .before .before .before .before .before .before .before .before .loop .inv in omega (arith, v .room, v .same)
 
-part-put-few-start-2 : tie.Need-part-put-few-start-2 Inv-loop μ-loop
-part-put-few-start-2 c = let v = c .before .before .before .before .before .before .before .before .before .before .before .loop .inv in omega (arith, v .room, v .same)
+part-put-pair-start-2 : tie.Need-part-put-pair-start-2 Inv-loop μ-loop
+part-put-pair-start-2 c = let v = c .before .before .before .before .before .before .before .before .before .before .before .loop .inv in omega (arith, v .room, v .same)
 
-part-put-few-end-2 : tie.Need-part-put-few-end-2 Inv-loop μ-loop
-part-put-few-end-2 c = search needs
+part-put-pair-end-2 : tie.Need-part-put-pair-end-2 Inv-loop μ-loop
+part-put-pair-end-2 c = search needs
 
 opened-requires : tie.Need-opened-requires Inv-loop μ-loop
 opened-requires c κs = tt
 
-put-few-requires-2 : tie.Need-put-few-requires-2 Inv-loop μ-loop
-put-few-requires-2 c κs = tt
+put-pair-requires-2 : tie.Need-put-pair-requires-2 Inv-loop μ-loop
+put-pair-requires-2 c κs = tt
 
 apply-requires : tie.Need-apply-requires Inv-loop μ-loop
 apply-requires c κs = tt
@@ -163,17 +163,17 @@ mul-fill c = omega (arith, stepped (c .before .before .before .before .before .b
 element-set-from-fill : tie.Need-element-set-from-fill Inv-loop μ-loop
 element-set-from-fill c = stepped (c .before .before .before .before .before .before) .fill-place
 
-sub-put-few-3 : tie.Need-sub-put-few-3 Inv-loop μ-loop
-sub-put-few-3 c = let v = c .before .before .before .before .before .before .before .before .before .before .before .before .before .loop .inv in omega (arith, v .room, v .same)
+sub-put-pair-3 : tie.Need-sub-put-pair-3 Inv-loop μ-loop
+sub-put-pair-3 c = let v = c .before .before .before .before .before .before .before .before .before .before .before .before .before .loop .inv in omega (arith, v .room, v .same)
 
-part-put-few-start-3 : tie.Need-part-put-few-start-3 Inv-loop μ-loop
-part-put-few-start-3 c = let v = c .before .before .before .before .before .before .before .before .before .before .before .before .before .loop .inv in omega (arith, v .room, v .same)
+part-put-pair-start-3 : tie.Need-part-put-pair-start-3 Inv-loop μ-loop
+part-put-pair-start-3 c = let v = c .before .before .before .before .before .before .before .before .before .before .before .before .before .loop .inv in omega (arith, v .room, v .same)
 
-part-put-few-end-3 : tie.Need-part-put-few-end-3 Inv-loop μ-loop
-part-put-few-end-3 c = search needs
+part-put-pair-end-3 : tie.Need-part-put-pair-end-3 Inv-loop μ-loop
+part-put-pair-end-3 c = search needs
 
-put-few-requires-3 : tie.Need-put-few-requires-3 Inv-loop μ-loop
-put-few-requires-3 c κs = tt
+put-pair-requires-3 : tie.Need-put-pair-requires-3 Inv-loop μ-loop
+put-pair-requires-3 c κs = tt
 
 same-length : tie.Need-same-length Inv-loop μ-loop
 same-length c = let j = c .before .before in wrote-length (j .before .before .before .before .before .before .before .before .before .loop .inv) (wrote j)
@@ -226,7 +226,7 @@ loop-less c =
     let r = t .before .before .before .before in
     let k = r .before in
     let l = k .before .before .loop in
-    let next : c .place-after .result ≡ turnAt (input t) (l .place) (l .session) .place = c .place-after .ensures ∙ code-place (input t) (l .place) (l .session) (r .record-at .ensures) (t .before .change .ensures) (t .step-of .ensures) in
+    let next : c .place-after .result ≡ afterRecord (input t) (l .place) (l .session) .place = c .place-after .ensures ∙ code-place (input t) (l .place) (l .session) (r .record-at .ensures) (t .before .change .ensures) (t .step-of .ensures) in
     let on = onward (input t) (l .place) (l .session) (k .if1 .taken) in
     omega (arith, on .on, on .within, ap (λ (p : Place). p .at) next)
 
@@ -278,17 +278,17 @@ run-file-spec =
     record-at-requires
     change-requires
     step-of-requires
-    sub-put-few
-    part-put-few-start
-    part-put-few-end
+    sub-put-pair
+    part-put-pair-start
+    part-put-pair-end
     refused-requires
-    put-few-requires
+    put-pair-requires
     new-requires
-    sub-put-few-2
-    part-put-few-start-2
-    part-put-few-end-2
+    sub-put-pair-2
+    part-put-pair-start-2
+    part-put-pair-end-2
     opened-requires
-    put-few-requires-2
+    put-pair-requires-2
     apply-requires
     sub-put-events
     part-put-events-start
@@ -299,10 +299,10 @@ run-file-spec =
     element-set-from-order
     mul-fill
     element-set-from-fill
-    sub-put-few-3
-    part-put-few-start-3
-    part-put-few-end-3
-    put-few-requires-3
+    sub-put-pair-3
+    part-put-pair-start-3
+    part-put-pair-end-3
+    put-pair-requires-3
     same-length
     returns
     add-at

@@ -19,7 +19,7 @@ Inv-loop n d left₀ p₀ left p = (left ≤ 128) × (value (p .rest) < value d)
 abbrev μ-loop : tie.MeasureT-loop
 μ-loop n d left₀ p₀ left p = left
 
--- the digits brought down, with the one of this turn
+-- the digits brought down, with the one of this step
 next : (c : tie.After-bit Inv-loop μ-loop)
     → 2 * (value (c .before .before .loop .p .quotient) * value (c .before .before .before .before .before .before .args .d) + value (c .before .before .loop .p .rest)) + c .bit .result
     ≡ value (c .before .before .before .before .before .before .args .n) / 2 ^ (c .before .before .loop .left - 1)
@@ -52,8 +52,8 @@ sub-left c = search needs
 bit-requires : tie.Need-bit-requires Inv-loop μ-loop
 bit-requires c κs = omega arith
 
-turn-requires : tie.Need-turn-requires Inv-loop μ-loop
-turn-requires c κs =
+bring-down-requires : tie.Need-bring-down-requires Inv-loop μ-loop
+bring-down-requires c κs =
     let s = c .before .before .before .before .before .before in
     record {
       below = c .before .before .loop .inv .1;
@@ -66,7 +66,7 @@ loop-less : tie.Need-loop-less Inv-loop μ-loop
 loop-less c = omega arith
 
 loop-again : tie.Need-loop-again Inv-loop μ-loop
-loop-again c = (omega arith, c .turn .ensures .0, c .turn .ensures .1 ∙ next (c .before))
+loop-again c = (omega arith, c .bring-down .ensures .0, c .bring-down .ensures .1 ∙ next (c .before))
 
 returns : tie.Need-returns Inv-loop μ-loop
 returns c = let i = c .before .loop .inv in of-parts _ _ (c .before .loop .p) (i .1) (i .2 ∙ all-down _ _ (c .loop-test .left))
@@ -83,7 +83,7 @@ long-division-spec =
     loop-holds
     sub-left
     bit-requires
-    turn-requires
+    bring-down-requires
     loop-less
     loop-again
     returns)

@@ -5,12 +5,12 @@ use borrow.Author.Needs.{needs}
 use borrow.Author.Tests.{not-true, not-false}
 use Rattle.auction_engine.specs.Matching.{allocateChecks, done}
 use Rattle.auction_engine.proofs.Checks.{Within}
-use Rattle.auction_engine.proofs.Turns.{Turned, turned-tells}
-use Rattle.auction_engine.proofs.Allocating.{checks-within, allocate-refused, turns-refuse, turned-orders, answer-done, answer-more}
+use Rattle.auction_engine.proofs.FillLoop.{Filled, filled-by-tells}
+use Rattle.auction_engine.proofs.Allocating.{checks-within, allocate-refused, fills-refuse, filled-orders, answer-done, answer-more}
 use Rattle.auction_engine.proofs.Session.allocate.Statement.{statement}
 use Rattle.auction_engine.proofs.Session.allocate.Tie as tie
 
--- the number that the checks before the turns come to is 0
+-- the number that the checks before the fills come to is 0
 passed : (c : tie.Else1) → allocateChecks (c .before .before .args .self) ≡ 0
 passed c = sym (c .before .allocate-refusal .ensures) ∙ c .if1 .left
 
@@ -29,19 +29,19 @@ returns c =
     let a = d .before .args in
     allocate-refused (a .self) (a .now) (a .max-fills) (d .allocate-refusal .result) (c .refused .result) (d .allocate-refusal .ensures) (c .before .if1 .taken) (c .refused .ensures)
 
-turned-requires : tie.Need-turned-requires
-turned-requires c κs = let w = within c in (w .orders, w .fills)
+filled-by-requires : tie.Need-filled-by-requires
+filled-by-requires c κs = let w = within c in (w .orders, w .fills)
 
--- what the turns tell
-turns : (c : tie.After-turned) → Turned (c .before .before .before .args .self) (c .before .before .before .args .max-fills) (c .turned .result)
-turns c = let a = c .before .before .before .args in turned-tells (a .self) (a .max-fills) (c .turned .result) (c .turned .ensures)
+-- what the fills tell
+filled : (c : tie.After-filled-by) → Filled (c .before .before .before .args .self) (c .before .before .before .args .max-fills) (c .filled-by .result)
+filled c = let a = c .before .before .before .args in filled-by-tells (a .self) (a .max-fills) (c .filled-by .result) (c .filled-by .ensures)
 
 returns-2 : tie.Need-returns-2
 returns-2 c =
     let t = c .before .before in
     let e = t .before in
     let a = e .before .before .args in
-    turns-refuse (a .self) (a .now) (a .max-fills) (t .turned .result) (passed e) (turns t) (c .if2 .taken)
+    fills-refuse (a .self) (a .now) (a .max-fills) (t .filled-by .result) (passed e) (filled t) (c .if2 .taken)
 
 none-left-requires : tie.Need-none-left-requires
 none-left-requires c κs =
@@ -49,7 +49,7 @@ none-left-requires c κs =
     let t = d .before .before in
     let e = t .before in
     let a = e .before .before .args in
-    turned-orders (a .self) (a .max-fills) (t .turned .result) (turns t) (d .if2 .left) (within e .orders)
+    filled-orders (a .self) (a .max-fills) (t .filled-by .result) (filled t) (d .if2 .left) (within e .orders)
 
 returns-3 : tie.Need-returns-3
 unfolding done
@@ -58,7 +58,7 @@ returns-3 c =
     let t = d .before .before in
     let e = t .before in
     let a = e .before .before .args in
-    answer-more (a .self) (a .max-fills) (t .turned .result) (turns t) (d .if2 .left) (a .now) (passed e) (sym (c .before .none-left .ensures) ∙ not-true _ (c .if3 .taken))
+    answer-more (a .self) (a .max-fills) (t .filled-by .result) (filled t) (d .if2 .left) (a .now) (passed e) (sym (c .before .none-left .ensures) ∙ not-true _ (c .if3 .taken))
 
 phase-after-requires : tie.Need-phase-after-requires
 phase-after-requires c κs = search needs
@@ -76,7 +76,7 @@ returns-4 c =
     let t = d .before .before in
     let e = t .before in
     let a = e .before .before .args in
-    answer-done (a .self) (a .max-fills) (t .turned .result) (turns t) (d .if2 .left) (a .now) (passed e) (m .phase-after .result) (p .push .result) (sym (l .before .none-left .ensures) ∙ not-false _ (l .if3 .left)) (m .phase-after .ensures) (p .push .ensures)
+    answer-done (a .self) (a .max-fills) (t .filled-by .result) (filled t) (d .if2 .left) (a .now) (passed e) (m .phase-after .result) (p .push .result) (sym (l .before .none-left .ensures) ∙ not-false _ (l .if3 .left)) (m .phase-after .ensures) (p .push .ensures)
 
 pub allocate-spec : {M : Type 1} → statement M
 allocate-spec =
@@ -85,7 +85,7 @@ allocate-spec =
     allocate-refusal-requires
     refused-requires
     returns
-    turned-requires
+    filled-by-requires
     returns-2
     none-left-requires
     returns-3

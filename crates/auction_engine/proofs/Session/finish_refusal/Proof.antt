@@ -28,8 +28,10 @@ stages : (c : tie.After-first-of)
     Staged s (call.finish (a .now)) (unless (every (λ i. fillAt s i .settled) (s .«fill_count»)) 25 then unless (ltb (movedVolume s) (2 ^ 64)) 17) (c .first-of .result)
 unfolding argumentsRefusal ownRefusal finishRefusal
 stages c =
-    let a = start c .args in
-    in-two-stages (a .self) (call.finish (a .now)) (unless (call.admits (a .self .phase) call.finishKind) 10) _ (sym (then-pass 0 _ refl)) (c .first-of .result) (cc)
+    let k = c .before in
+    let a = k .before .before .before .args in
+    in-two-stages (a .self) (call.finish (a .now)) (unless (call.admits (a .self .phase) call.finishKind) 10) _ (sym (then-pass 0 _ refl)) (c .first-of .result)
+    (rw (c .first-of .ensures, k .checked .ensures, k .before .unless .ensures, k .before .before .admits .ensures))
 
 -- past the first stage, the fills are within their limit
 few : (c : tie.Else1) → start (c .before) .args .self .«fill_count» ≤ maxFills

@@ -31,10 +31,13 @@ asked b = let a = b .args in call.screen (a .now) (a .order) (a .side) (a .verdi
 stages : (c : tie.After-first-of2) → let b = start c in let a = b .args in Staged (a .self) (asked b) (orderChecks (a .self) (a .order) (a .side)) (c .first-of2 .result)
 unfolding argumentsRefusal ownRefusal screenRefusal
 stages c =
-    let b = start c in
+    let w = c .before .before in
+    let k = w .before in
+    let b = k .before .before in
     let a = b .args in
     let entry = unless (call.inWindow (a .self) (a .now)) 11 then unless (call.admits (a .self .phase) call.screenKind) 10 in
-    in-two-stages (a .self) (asked b) (argumentsRefusal (asked b) then entry) _ (simp then-assoc) (c .first-of2 .result) (cc (toZ-ofZ (b .fits .now)))
+    in-two-stages (a .self) (asked b) (argumentsRefusal (asked b) then entry) _ (simp then-assoc) (c .first-of2 .result)
+    (rw (c .first-of2 .ensures, c .before .first-of .ensures, w .screening-refusal .ensures, k .checked .ensures, k .before .arguments-refusal .ensures, toZ-ofZ (b .fits .now)))
 
 -- the order at the place, where the array has one
 order-is : (c : tie.After-order-at) → let a = start (c .before .before) .args in a .order < maxOrders → c .order-at .result ≡ orderAt (a .self) (a .order)
@@ -94,8 +97,8 @@ exclusion-of-requires c κs = search needs
 screen-events-requires : tie.Need-screen-events-requires
 screen-events-requires c κs = search needs
 
-standing-requires : tie.Need-standing-requires
-standing-requires c κs = search needs
+keeping-requires : tie.Need-keeping-requires
+keeping-requires c κs = search needs
 
 as-screened-requires : tie.Need-as-screened-requires
 as-screened-requires c κs = search needs
@@ -111,7 +114,7 @@ returns-3 c =
     let a = b .args in
     let o = order-is (n .before) (screen-place (a .self) (a .now) (a .order) (a .side) (a .verdict) (a .has-id) (a .id) (sym (number n) ∙ d .if2 .left)) in
     accepted-change (a .self) (asked b) (a .order) _ 0 _ (n .order-refusal .result) (number n) _
-    (rw (c .before .standing .ensures, c .as-screened .ensures, l .screen-events .ensures, x .exclusion-of .ensures, o)) (d .if2 .left)
+    (rw (c .before .keeping .ensures, c .as-screened .ensures, l .screen-events .ensures, x .exclusion-of .ensures, o)) (d .if2 .left)
 
 pub screen-change-spec : {M : Type 1} → statement M
 screen-change-spec =
@@ -130,6 +133,6 @@ screen-change-spec =
     returns-2
     exclusion-of-requires
     screen-events-requires
-    standing-requires
+    keeping-requires
     as-screened-requires
     returns-3)

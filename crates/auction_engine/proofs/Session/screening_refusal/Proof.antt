@@ -21,7 +21,17 @@ first-of-requires : tie.Need-first-of-requires
 first-of-requires c κs = search needs
 
 returns : tie.Need-returns
-returns c = cc (toZ-ofZ (c .before .before .before .before .before .fits .now))
+returns c =
+    let u = c .before in
+    let w = u .before .before in
+    rw (
+      c .first-of .ensures,
+      u .unless2 .ensures,
+      u .before .admits .ensures,
+      w .unless .ensures,
+      w .before .in-window .ensures,
+      toZ-ofZ (w .before .before .fits .now),
+    )
 
 pub screening-refusal-spec : {M : Type 1} → statement M
 screening-refusal-spec =

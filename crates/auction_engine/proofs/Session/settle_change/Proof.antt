@@ -26,8 +26,10 @@ start c = c .before .before .before .before
 stages : (c : tie.After-first-of) → let a = start c .args in Staged (a .self) (call.settle (a .fill)) (fillChecks (a .self) (a .fill)) (c .first-of .result)
 unfolding argumentsRefusal ownRefusal settleRefusal
 stages c =
-    let a = start c .args in
-    in-two-stages (a .self) (call.settle (a .fill)) (unless (call.admits (a .self .phase) call.settleKind) 10) _ (sym (then-pass 0 _ refl)) (c .first-of .result) (cc)
+    let k = c .before in
+    let a = k .before .before .before .args in
+    in-two-stages (a .self) (call.settle (a .fill)) (unless (call.admits (a .self .phase) call.settleKind) 10) _ (sym (then-pass 0 _ refl)) (c .first-of .result)
+    (rw (c .first-of .ensures, k .checked .ensures, k .before .unless .ensures, k .before .before .admits .ensures))
 
 -- the fill at the place, where the array has one
 fill-is : (c : tie.After-fill-at) → let a = start (c .before .before) .args in a .fill < maxFills → c .fill-at .result ≡ fillAt (a .self) (a .fill)

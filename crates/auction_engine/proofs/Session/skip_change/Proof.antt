@@ -32,10 +32,13 @@ stages : (c : tie.After-first-of2)
     → let b = start c in let a = b .args in Staged (a .self) (asked b) (fillChecks (a .self) (a .fill) then unless (ltb 0 (a .reason)) 24) (c .first-of2 .result)
 unfolding argumentsRefusal ownRefusal skipRefusal
 stages c =
-    let b = start c in
+    let k = c .before .before in
+    let p = k .before in
+    let b = p .before .before .before in
     let a = b .args in
     in-two-stages (a .self) (asked b) (unless (leb (a .reason) 6) 4 then unless (call.admits (a .self .phase) call.skipKind) 10) _
-    (simp then-assoc) (c .first-of2 .result) (cc)
+    (simp then-assoc) (c .first-of2 .result)
+    (rw (c .first-of2 .ensures, c .before .first-of .ensures, k .checked .ensures, p .unless2 .ensures, p .before .admits .ensures, p .before .before .unless .ensures))
 
 -- the fill at the place, where the array has one
 fill-is : (c : tie.After-fill-at) → let a = start (c .before .before) .args in a .fill < maxFills → c .fill-at .result ≡ fillAt (a .self) (a .fill)

@@ -1,4 +1,4 @@
--- `investors::participants::seen_before` meets its contract. The loop's invariant: the participant stands at no place passed. The measure is what is left of the places.
+-- `investors::participants::seen_before` meets its contract. The loop's invariant: the participant takes part at no place passed. The measure is what is left of the places.
 -- Assumes nothing.
 use mathlib.Core.Path.{_≡_, sym, _∙_}
 use mathlib.Core.Bool.{false}
@@ -7,12 +7,12 @@ use native.Mathlib.Omega.{arith}
 use borrow.Author.Needs.{needs}
 use Rattle.laws.specs.Search.{some}
 use Rattle.laws.proofs.Search.{some-start, some-more, some-at, some-end}
-use Rattle.investors.specs.Places.{placeIn, standsAt}
+use Rattle.investors.specs.Places.{placeIn, takesPartAt}
 use Rattle.investors.proofs.participants.seen_before.Statement.{statement}
 use Rattle.investors.proofs.participants.seen_before.Tie as tie
 
 abbrev Inv-loop : tie.InvT-loop
-Inv-loop k a places j₀ j = (j ≤ k) × (some (standsAt (placeIn places) a) j ≡ false)
+Inv-loop k a places j₀ j = (j ≤ k) × (some (takesPartAt (placeIn places) a) j ≡ false)
 
 abbrev μ-loop : tie.MeasureT-loop
 μ-loop k a places j₀ j = k - j
@@ -26,12 +26,12 @@ mul-q c = search needs
 array-copy-out-q : tie.Need-array-copy-out-q Inv-loop μ-loop
 array-copy-out-q c = search needs
 
-stands-at-requires : tie.Need-stands-at-requires Inv-loop μ-loop
-stands-at-requires c κs = search needs
+takes-part-at-requires : tie.Need-takes-part-at-requires Inv-loop μ-loop
+takes-part-at-requires c κs = search needs
 
 returns : tie.Need-returns Inv-loop μ-loop
-unfolding standsAt
-returns c = some-at _ _ _ (c .before .before .before .loop-test .taken) (sym (c .before .stands-at .ensures) ∙ c .if1 .taken)
+unfolding takesPartAt
+returns c = some-at _ _ _ (c .before .before .before .loop-test .taken) (sym (c .before .takes-part-at .ensures) ∙ c .if1 .taken)
 
 add-j : tie.Need-add-j Inv-loop μ-loop
 add-j c = search needs
@@ -40,8 +40,8 @@ loop-less : tie.Need-loop-less Inv-loop μ-loop
 loop-less c = search needs
 
 loop-again : tie.Need-loop-again Inv-loop μ-loop
-unfolding standsAt
-loop-again c = (omega arith, some-more _ _ (c .before .before .before .before .loop .inv .1) (sym (c .before .stands-at .ensures) ∙ c .if1 .left))
+unfolding takesPartAt
+loop-again c = (omega arith, some-more _ _ (c .before .before .before .before .loop .inv .1) (sym (c .before .takes-part-at .ensures) ∙ c .if1 .left))
 
 returns-2 : tie.Need-returns-2 Inv-loop μ-loop
 returns-2 c = let l = c .before .loop .inv in some-end _ _ _ (l .1) (l .0) (c .loop-test .left)
@@ -55,7 +55,7 @@ seen-before-spec =
     loop-holds
     mul-q
     array-copy-out-q
-    stands-at-requires
+    takes-part-at-requires
     returns
     add-j
     loop-less

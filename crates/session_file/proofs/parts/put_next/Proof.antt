@@ -45,7 +45,7 @@ same-length c = as-long (c .before .before)
 returns-2 : tie.Need-returns-2
 returns-2 c =
     let w = wrote (c .before .before) in
-    record { writes = w .0; standing = rw (ne-eqb _ 0 (c .if3 .taken)); fits = λ h. absurd (c .if3 .taken (w .1 h)) }
+    record { writes = w .0; cursor = rw (ne-eqb _ 0 (c .if3 .taken)); fits = λ h. absurd (c .if3 .taken (w .1 h)) }
 
 same-length-2 : tie.Need-same-length-2
 same-length-2 c = as-long (c .before .before .before)
@@ -55,7 +55,7 @@ returns-3 c =
     let d = c .before in
     let j = d .before .before in
     let w = wrote j in
-    record { writes = w .0; standing = rw (eq-eqb _ 0 (d .if3 .left)) (j .before .next-of .ensures .standing); fits = w .1 }
+    record { writes = w .0; cursor = rw (eq-eqb _ 0 (d .if3 .left)) (j .before .next-of .ensures .cursor); fits = w .1 }
 
 pub put-next-spec : {M : Type 1} → statement M
 put-next-spec =

@@ -5,9 +5,9 @@ use native.Mathlib.Omega.{arith}
 use lib.ListN.{drop}
 use borrow.Author.Needs.{needs}
 use Rattle.session_file.specs.Reads.{readNext}
-use Rattle.session_file.specs.Parts.{turnAt}
+use Rattle.session_file.specs.Parts.{afterRecord}
 use Rattle.session_file.proofs.Stepping.{code-stepped, code-place, code-fits}
-use Rattle.session_file.proofs.PartByPart.{turn-is}
+use Rattle.session_file.proofs.PartByPart.{handled-is}
 use Rattle.session_file.proofs.parts.record_next.Statement.{statement}
 use Rattle.session_file.proofs.parts.record_next.Tie as tie
 
@@ -20,8 +20,8 @@ change-requires c κs = search needs
 step-of-requires : tie.Need-step-of-requires
 step-of-requires c κs = search needs
 
-turn-of-requires : tie.Need-turn-of-requires
-turn-of-requires c κs = search needs
+handle-requires : tie.Need-handle-requires
+handle-requires c κs = search needs
 
 place-after-requires : tie.Need-place-after-requires
 place-after-requires c κs z =
@@ -36,7 +36,7 @@ wrapping-add-u64-requires : tie.Need-wrapping-add-u64-requires
 wrapping-add-u64-requires c κs = search needs
 
 returns : tie.Need-returns
-unfolding turnAt
+unfolding afterRecord
 returns c =
     let p = c .before in
     let u = p .before .before .before in
@@ -44,10 +44,10 @@ returns c =
     let r = t .before .before .before .before in
     let b = r .before .before .before .before in
     let s = b .args .s in
-    let d = turn-is (s .session) (s .place .stage) _ (r .record-at .result .fields) (t .before .change .result) (t .step-of .result)
+    let d = handled-is (s .session) (s .place .stage) _ (r .record-at .result .fields) (t .before .change .result) (t .step-of .result)
     (code-stepped (b .args .input .now) (s .place) (s .session) (r .record-at .ensures) (t .before .change .ensures) (t .step-of .ensures)) in
     let place = p .place-after .ensures ∙ code-place (b .args .input .now) (s .place) (s .session) (r .record-at .ensures) (t .before .change .ensures) (t .step-of .ensures) in
-    record { said = rw (u .turn-of .ensures) (d .1); standing = rw (u .turn-of .ensures, d .0, c .wrapping-add-u64 .ensures, place) }
+    record { said = rw (u .handle .ensures) (d .1); cursor = rw (u .handle .ensures, d .0, c .wrapping-add-u64 .ensures, place) }
 
 pub record-next-spec : {M : Type 1} → statement M
 record-next-spec =
@@ -56,7 +56,7 @@ record-next-spec =
     record-at-requires
     change-requires
     step-of-requires
-    turn-of-requires
+    handle-requires
     place-after-requires
     wrapping-add-u64-requires
     returns)

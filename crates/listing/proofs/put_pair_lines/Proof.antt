@@ -1,4 +1,4 @@
--- `listing::put_few_lines` meets its contract: without an event `none`, else the line of the first and that of the second.
+-- `listing::put_pair_lines` meets its contract: without an event `none`, else the line of the first and that of the second.
 -- Assumes nothing.
 use native.Mathlib.Omega.{arith}
 use lib.ListN.{length-take, length-drop}
@@ -7,8 +7,8 @@ use Rattle.events.proofs.Packed.{both-held}
 use Rattle.bytes.proofs.Spliced.{puts-puts, puts-part}
 use Rattle.listing.proofs.Parts.{event-short, event-line}
 use Rattle.listing.proofs.Lines.{lines-one, lines-two}
-use Rattle.listing.proofs.put_few_lines.Statement.{statement}
-use Rattle.listing.proofs.put_few_lines.Tie as tie
+use Rattle.listing.proofs.put_pair_lines.Statement.{statement}
+use Rattle.listing.proofs.put_pair_lines.Tie as tie
 
 bare-requires : tie.Need-bare-requires
 bare-requires c κs = search needs
@@ -66,10 +66,10 @@ returns-3 c =
     let s = p .before .before .before .before .before .before in
     let first = rw (p .before .parts-of .ensures, event-line) at (p .put-line2 .ensures .0) in
     let second = rw (q .before .parts-of2 .ensures, event-line) at (q .put-line3 .ensures .0) in
-    (rw (both-held (s .args .few) (omega arith), lines-two) (puts-puts first (puts-part _ _ second) (omega arith)), omega arith)
+    (rw (both-held (s .args .pair) (omega arith), lines-two) (puts-puts first (puts-part _ _ second) (omega arith)), omega arith)
 
-pub put-few-lines-spec : {M : Type 1} → statement M
-put-few-lines-spec =
+pub put-pair-lines-spec : {M : Type 1} → statement M
+put-pair-lines-spec =
     tie.close
     (tie.spec
     bare-requires

@@ -9,7 +9,7 @@ use Rattle.events.specs.Events.{packed}
 use Rattle.auction_engine.specs.declared.Session.{Session}
 use Rattle.auction_engine.specs.declared.Answer.{Answer}
 use Rattle.auction_engine.specs.declared.matching.Pair.{Pair}
-use Rattle.auction_engine.specs.Matching.{firstDue, crank, overfull, fillEvents}
+use Rattle.auction_engine.specs.Matching.{firstDue, afterFills, overfull, fillEvents}
 use Rattle.auction_engine.specs.Engine.{refusedBy}
 
 -- the two orders that the next fill pairs, if one is due
@@ -19,6 +19,6 @@ nextPair os n =
     let a : ℕ = firstDue os n sellSide in
     record { due = ltb b n && ltb a n; buy = b; sell = a }
 
--- at most n turns; 18, and the session as it was, where one more fill is due and no place is free
-abbrev pub turned : Session → (n : ℕ) → Answer
-turned s n = cond (overfull n s) (refusedBy s 18) (record { refusal = 0; session = crank n s; events = packed (fillEvents n s) })
+-- at most n fills; 18, and the session as it was, where one more fill is due and no place is free
+abbrev pub filledBy : Session → (n : ℕ) → Answer
+filledBy s n = cond (overfull n s) (refusedBy s 18) (record { refusal = 0; session = afterFills n s; events = packed (fillEvents n s) })

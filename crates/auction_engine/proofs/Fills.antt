@@ -1,4 +1,4 @@
--- Laws of the definitions of allocate: what a turn does, what turns keep, and how many events they make. Assumes nothing.
+-- Laws of the definitions of allocate: what a fill does, what fills keep, and how many events they make. Assumes nothing.
 use mathlib.Core.Path.{_≡_, refl, sym, _∙_, ap}
 use mathlib.Core.Bool.{Bool, true, false, cond, and-false}
 use mathlib.Core.List.{[], _∷_}
@@ -12,9 +12,9 @@ use Rattle.book.specs.Limits.{maxFills}
 use Rattle.events.specs.declared.Event.{Event}
 use Rattle.events.specs.declared.Event.the-variants.{FillAllocated}
 use Rattle.auction_engine.specs.declared.Session.{Session}
-use Rattle.auction_engine.specs.Matching.{buyAt, sellAt, due, dueQty, pair, one, crank, overfull, fillEvents, phaseAfter}
+use Rattle.auction_engine.specs.Matching.{buyAt, sellAt, due, dueQty, pair, one, afterFills, overfull, fillEvents, phaseAfter}
 
--- what a pairing keeps, one fill and any number of turns keep
+-- what a pairing keeps, one fill and any number of fills keep
 module _ {A : Type 0} (f : Session → A) (h : (s : Session) (b a q : ℕ) → f (pair s b a q) ≡ f s) where
   one-keeps : (s : Session) → f (one s) ≡ f s
   unfolding one
@@ -24,33 +24,33 @@ module _ {A : Type 0} (f : Session → A) (h : (s : Session) (b a q : ℕ) → f
       go true = h s (buyAt s) (sellAt s) (dueQty s)
       go false = refl
 
-  crank-keeps : (n : ℕ) (s : Session) → f (crank n s) ≡ f s
-  unfolding crank
-  crank-keeps zero s = refl
-  crank-keeps (suc n) s = crank-keeps n (one s) ∙ one-keeps s
+  after-fills-keeps : (n : ℕ) (s : Session) → f (afterFills n s) ≡ f s
+  unfolding afterFills
+  after-fills-keeps zero s = refl
+  after-fills-keeps (suc n) s = after-fills-keeps n (one s) ∙ one-keeps s
 
 pub one-orders : (s : Session) → one s .«order_count» ≡ s .«order_count»
 unfolding pair
 one-orders s = one-keeps (λ t. t .«order_count») (λ t b a q. refl) s
 
-pub crank-orders : (n : ℕ) (s : Session) → crank n s .«order_count» ≡ s .«order_count»
+pub after-fills-orders : (n : ℕ) (s : Session) → afterFills n s .«order_count» ≡ s .«order_count»
 unfolding pair
-crank-orders n s = crank-keeps (λ t. t .«order_count») (λ t b a q. refl) n s
+after-fills-orders n s = after-fills-keeps (λ t. t .«order_count») (λ t b a q. refl) n s
 
-pub crank-phase-after : (n : ℕ) (s : Session) → phaseAfter (crank n s) ≡ phaseAfter s
+pub after-fills-phase-after : (n : ℕ) (s : Session) → phaseAfter (afterFills n s) ≡ phaseAfter s
 unfolding pair phaseAfter
-crank-phase-after n s = crank-keeps phaseAfter (λ t b a q. refl) n s
+after-fills-phase-after n s = after-fills-keeps phaseAfter (λ t b a q. refl) n s
 
--- nothing is due: turns do nothing
+-- nothing is due: no fill is made
 module _ (s : Session) (d : due s ≡ false) where
   idle-one : one s ≡ s
   unfolding one
   idle-one = ap (λ (x : Bool). cond x (pair s (buyAt s) (sellAt s) (dueQty s)) s) d
 
-  pub idle-crank : (n : ℕ) → crank n s ≡ s
-  unfolding crank
-  idle-crank zero = refl
-  idle-crank (suc n) = ap (crank n) idle-one ∙ idle-crank n
+  pub idle-after-fills : (n : ℕ) → afterFills n s ≡ s
+  unfolding afterFills
+  idle-after-fills zero = refl
+  idle-after-fills (suc n) = ap (afterFills n) idle-one ∙ idle-after-fills n
 
   pub idle-full : (n : ℕ) → overfull n s ≡ false
   unfolding overfull
@@ -84,11 +84,11 @@ module _ (s : Session) (d : due s ≡ true) where
   unfolding overfull
   due-full n h = rw (d, le-leb maxFills (s .«fill_count») h)
 
-pub crank-more : (n : ℕ) (s : Session) → crank (suc n) s ≡ crank n (one s)
-unfolding crank
-crank-more n s = refl
+pub after-fills-more : (n : ℕ) (s : Session) → afterFills (suc n) s ≡ afterFills n (one s)
+unfolding afterFills
+after-fills-more n s = refl
 
--- a place is free: the turns after the next decide
+-- a place is free: the fills after the next decide
 pub free-full : (n : ℕ) (s : Session) → s .«fill_count» < maxFills → overfull (suc n) s ≡ overfull n (one s)
 unfolding overfull
 free-full n s h = rw (lt-leb maxFills (s .«fill_count») h, and-false (due s))

@@ -1,22 +1,22 @@
--- `listing::put_few` meets its contract: in place where any record's lines fit, else as the record with the same events.
+-- `listing::put_pair` meets its contract: in place where any record's lines fit, else as the record with the same events.
 -- Assumes nothing.
 use mathlib.Core.Path.{refl}
 use native.Mathlib.Omega.{arith}
 use borrow.Author.Needs.{needs}
-use Rattle.events.proofs.Packed.{few-packed}
+use Rattle.events.proofs.Packed.{pair-packed}
 use Rattle.bytes.proofs.Answers.{in-place}
-use Rattle.listing.proofs.put_few.Statement.{statement}
-use Rattle.listing.proofs.put_few.Tie as tie
+use Rattle.listing.proofs.put_pair.Statement.{statement}
+use Rattle.listing.proofs.put_pair.Tie as tie
 
-put-few-lines-requires : tie.Need-put-few-lines-requires
-put-few-lines-requires c κs = search needs
+put-pair-lines-requires : tie.Need-put-pair-lines-requires
+put-pair-lines-requires c κs = search needs
 
 same-length : tie.Need-same-length
 same-length c = search needs
 
 returns : tie.Need-returns
 returns c =
-    let p = c .before .before .put-few-lines .ensures in
+    let p = c .before .before .put-pair-lines .ensures in
     (in-place (p .0) (p .1) (c .before .before .before .before .if1 .taken), λ room. refl)
 
 all-requires : tie.Need-all-requires
@@ -32,13 +32,13 @@ returns-2 : tie.Need-returns-2
 returns-2 c =
     let p = c .before .before in
     let a = p .before in
-    (rw (← few-packed (a .before .before .before .before .args .few), ← a .all .ensures) (p .put-copied .ensures), λ room. absurd (omega arith))
+    (rw (← pair-packed (a .before .before .before .before .args .pair), ← a .all .ensures) (p .put-copied .ensures), λ room. absurd (omega arith))
 
-pub put-few-spec : {M : Type 1} → statement M
-put-few-spec =
+pub put-pair-spec : {M : Type 1} → statement M
+put-pair-spec =
     tie.close
     (tie.spec
-    put-few-lines-requires
+    put-pair-lines-requires
     same-length
     returns
     all-requires

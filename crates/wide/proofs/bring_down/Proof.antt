@@ -1,4 +1,4 @@
--- `wide::turn` meets its contract. The next digit of the quotient is 1 where the divisor goes into the remainder with b behind it, else 0.
+-- `wide::bring_down` meets its contract. The next digit of the quotient is 1 where the divisor goes into the remainder with b behind it, else 0.
 -- Assumes nothing.
 use mathlib.Core.Path.{sym, _∙_}
 use Prim.Native.Nat.{_≤_}
@@ -7,8 +7,8 @@ use borrow.Author.Needs.{needs}
 use borrow.Author.Tests.{ltb-true, ltb-false}
 use Rattle.wide.specs.Value.{value, modulus}
 use Rattle.wide.proofs.Long.{digit-zero, digit-one, quotient-zero, quotient-one, rest-below}
-use Rattle.wide.proofs.turn.Statement.{statement}
-use Rattle.wide.proofs.turn.Tie as tie
+use Rattle.wide.proofs.bring_down.Statement.{statement}
+use Rattle.wide.proofs.bring_down.Tie as tie
 
 -- the divisor goes into the remainder with b behind it
 goes : (c : tie.Else1) → value (c .before .before .before .args .d) ≤ value (c .before .before .double .result)
@@ -48,8 +48,8 @@ returns-2 c =
       digit-one (value (s .args .p .quotient)) (value (s .args .p .rest)) (value (s .args .d)) (s .args .b) _ e _ _ (goes (c .before .before)) (c .before .double3 .ensures) (c .sub .ensures),
     )
 
-pub turn-spec : {M : Type 1} → statement M
-turn-spec =
+pub bring-down-spec : {M : Type 1} → statement M
+bring-down-spec =
     tie.close
     (tie.spec
     double-requires

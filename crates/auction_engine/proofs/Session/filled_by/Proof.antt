@@ -1,13 +1,13 @@
--- `auction_engine::Session::turned` meets its contract: with turns left, what is left decides (`Going`).
+-- `auction_engine::Session::filled_by` meets its contract: with fills left to make, what is left decides (`Going`).
 -- Assumes nothing.
 use mathlib.Core.Path.{_∙_}
 use Prim.Native.Nat.{_-_, _≤_}
 use borrow.Author.Needs.{needs}
 use borrow.Author.Tests.{not-true, not-false}
 use Rattle.auction_engine.specs.Matching.{pair}
-use Rattle.auction_engine.proofs.Turns.{Going, Free, going-start, going-free, going-idle, going-full, going-more, going-end}
-use Rattle.auction_engine.proofs.Session.turned.Statement.{statement}
-use Rattle.auction_engine.proofs.Session.turned.Tie as tie
+use Rattle.auction_engine.proofs.FillLoop.{Going, Free, going-start, going-free, going-idle, going-full, going-more, going-end}
+use Rattle.auction_engine.proofs.Session.filled_by.Statement.{statement}
+use Rattle.auction_engine.proofs.Session.filled_by.Tie as tie
 
 abbrev Inv-loop : tie.InvT-loop
 Inv-loop self n session₀ events₀ i₀ session events i = (i ≤ n) × Going self n (n - i) session events
@@ -144,8 +144,8 @@ returns-3 c =
     let a = q .before .before .args in
     going-end (a .self) (a .n) (q .loop .i) (q .loop .session) (q .loop .events) (c .loop-test .left) (q .loop .inv .1)
 
-pub turned-spec : {M : Type 1} → statement M
-turned-spec =
+pub filled-by-spec : {M : Type 1} → statement M
+filled-by-spec =
     tie.close
     (tie.spec
     Inv-loop

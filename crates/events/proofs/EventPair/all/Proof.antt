@@ -1,10 +1,10 @@
--- `events::Few::all` meets its contract: the first and the second are pushed, as far as the count goes.
+-- `events::EventPair::all` meets its contract: the first and the second are pushed, as far as the count goes.
 -- Assumes nothing.
 use native.Mathlib.Omega.{arith}
 use borrow.Author.Needs.{needs}
 use Rattle.events.proofs.Packed.{push-first, push-second, both-held}
-use Rattle.events.proofs.Few.all.Statement.{statement}
-use Rattle.events.proofs.Few.all.Tie as tie
+use Rattle.events.proofs.EventPair.all.Statement.{statement}
+use Rattle.events.proofs.EventPair.all.Tie as tie
 
 none-requires : tie.Need-none-requires
 none-requires c κs = search needs

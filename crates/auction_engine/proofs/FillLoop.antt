@@ -1,4 +1,4 @@
--- The loop of an allocate: with m turns left, what is left decides. Assumes nothing.
+-- The loop of an allocate: with m fills left to make, what is left decides. Assumes nothing.
 use mathlib.Core.Path.{_≡_, refl, sym, _∙_, ap, subst}
 use mathlib.Core.Logic.{_≢_}
 use mathlib.Core.Bool.{Bool, true, false, cond, not}
@@ -21,30 +21,30 @@ use Rattle.auction_engine.specs.declared.Session.{Session}
 use Rattle.auction_engine.specs.declared.Answer.{Answer}
 use Rattle.auction_engine.specs.declared.matching.Pair.{Pair}
 use Rattle.auction_engine.specs.Session.{left}
-use Rattle.auction_engine.specs.Matching.{buyAt, sellAt, dueAt, due, pair, one, crank, overfull, fillEvents}
+use Rattle.auction_engine.specs.Matching.{buyAt, sellAt, dueAt, due, pair, one, afterFills, overfull, fillEvents}
 use Rattle.auction_engine.specs.Engine.{refusedBy}
-use Rattle.auction_engine.specs.Cranks.{nextPair, turned}
-use Rattle.auction_engine.proofs.Cranks.{dueEvent, one-orders, idle-crank, idle-full, idle-events, due-one, due-count, due-events, due-full, crank-more, free-full}
+use Rattle.auction_engine.specs.NextFill.{nextPair, filledBy}
+use Rattle.auction_engine.proofs.Fills.{dueEvent, one-orders, idle-after-fills, idle-full, idle-events, due-one, due-count, due-events, due-full, after-fills-more, free-full}
 
--- what the answer of n turns tells
-pub record Turned (s : Session) (n : ℕ) (r : Answer) : Type 0 where
+-- what the answer of at most n fills tells
+pub record Filled (s : Session) (n : ℕ) (r : Answer) : Type 0 where
   pub refusal : r .refusal ≡ unless (not (overfull n s)) 18
   pub refused : r .refusal ≢ 0 → r ≡ refusedBy s (r .refusal)
-  pub session : r .refusal ≡ 0 → r .session ≡ crank n s
+  pub session : r .refusal ≡ 0 → r .session ≡ afterFills n s
   pub events : r .refusal ≡ 0 → r .events ≡ packed (fillEvents n s)
 
-pub turned-tells : (s : Session) (n : ℕ) (r : Answer) → r ≡ turned s n → Turned s n r
+pub filled-by-tells : (s : Session) (n : ℕ) (r : Answer) → r ≡ filledBy s n → Filled s n r
 unfolding unless
-turned-tells s n r e = subst (Turned s n) (sym e) (go (overfull n s) refl)
+filled-by-tells s n r e = subst (Filled s n) (sym e) (go (overfull n s) refl)
   where
-    go : (x : Bool) → overfull n s ≡ x → Turned s n (cond x (refusedBy s 18) (record { refusal = 0; session = crank n s; events = packed (fillEvents n s) }))
+    go : (x : Bool) → overfull n s ≡ x → Filled s n (cond x (refusedBy s 18) (record { refusal = 0; session = afterFills n s; events = packed (fillEvents n s) }))
     go true t = record { refusal = rw t refl; refused = λ _. refl; session = λ z. absurd (omega (arith, z)); events = λ z. absurd (omega (arith, z)) }
     go false t = record { refusal = rw t refl; refused = λ z. absurd (z refl); session = λ _. refl; events = λ _. refl }
 
--- n turns of s come to m turns of t, after the events v
+-- n fills of s come to m fills of t, after the events v
 pub record Going (s : Session) (n m : ℕ) (t : Session) (v : Events) : Type 0 where
   pub full : overfull n s ≡ overfull m t
-  pub session : crank n s ≡ crank m t
+  pub session : afterFills n s ≡ afterFills m t
   pub made : List Event
   pub lines : fillEvents n s ≡ made ++ fillEvents m t
   pub events : v ≡ packed made
@@ -77,7 +77,7 @@ going-fills s n m t v g d h =
     let longer : length (g .made ++ (e ∷ [])) ≡ length (g .made) + 1 = length-append (g .made) (e ∷ []) in
     record {
       full = g .full ∙ free-full m t h;
-      session = g .session ∙ crank-more m t;
+      session = g .session ∙ after-fills-more m t;
       made = g .made ++ (e ∷ []);
       lines = g .lines ∙ ap (λ (l : List Event). g .made ++ l) (due-events t d m) ∙ sym (append-assoc (g .made) (e ∷ []) (fillEvents m (one t)));
       events = ap (λ (w : Events). pushed w e) (g .events) ∙ push-packed (g .made) e (omega (arith, g .counted));
@@ -121,36 +121,36 @@ going-free s n m t v p g e f h =
       sell = rw (found-sell t p e) (omega (arith, ltb-true (sellAt t) (t .«order_count») (d .1), g .orders));
     }
 
--- the answer of n turns, by whether one fill was too many
+-- the answer of at most n fills, by whether one fill was too many
 module _ (s : Session) (n : ℕ) where
-  turned-full : overfull n s ≡ true → refusedBy s 18 ≡ turned s n
-  turned-full t = rw t
+  filled-by-full : overfull n s ≡ true → refusedBy s 18 ≡ filledBy s n
+  filled-by-full t = rw t
 
-  turned-made : overfull n s ≡ false → (t : Session) (v : Events) → t ≡ crank n s → v ≡ packed (fillEvents n s) → _≡_ {A = Answer} (record { refusal = 0; session = t; events = v }) (turned s n)
-  turned-made f t v e g = rw (f, e, g)
+  filled-by-made : overfull n s ≡ false → (t : Session) (v : Events) → t ≡ afterFills n s → v ≡ packed (fillEvents n s) → _≡_ {A = Answer} (record { refusal = 0; session = t; events = v }) (filledBy s n)
+  filled-by-made f t v e g = rw (f, e, g)
 
 -- one event more, where there is room
 room-pushed : (v : Events) (e : Event) → v .count < maxEvents → _≡_ {A = Events} (record { lines = set (v .lines) (v .count) (lineOf e); count = v .count + 1 }) (pushed v e)
 unfolding pushed
 room-pushed v e h = rw (lt-ltb (v .count) maxEvents h)
 
--- a turn as the code comes to it, from the pair that it found
+-- a fill as the code comes to it, from the pair that it found
 module _ (s : Session) (n i : ℕ) (t : Session) (v : Events) (p : Pair) (h : i < n) (g : Going s n (n - i) t v) (e : p ≡ nextPair (t .orders) (t .«order_count»)) where
   one-left : Going s n (suc (n - (i + 1))) t v
   one-left = let m : n - i ≡ suc (n - (i + 1)) = omega arith in subst (λ (x : ℕ). Going s n x t v) m g
 
   -- no fill is due
-  pub going-idle : p .due ≡ false → _≡_ {A = Answer} (record { refusal = 0; session = t; events = v }) (turned s n)
+  pub going-idle : p .due ≡ false → _≡_ {A = Answer} (record { refusal = 0; session = t; events = v }) (filledBy s n)
   going-idle f =
       let m = n - (i + 1) in
       let g : Going s n (suc m) t v = one-left in
       let d : due t ≡ false = sym (found-due t p e) ∙ f in
-      turned-made s n (g .full ∙ idle-full t d (suc m)) t v (sym (g .session ∙ idle-crank t d (suc m)))
+      filled-by-made s n (g .full ∙ idle-full t d (suc m)) t v (sym (g .session ∙ idle-after-fills t d (suc m)))
       (g .events ∙ ap packed (sym (g .lines ∙ ap (λ (l : List Event). g .made ++ l) (idle-events t d (suc m)) ∙ append-nil (g .made))))
 
   -- one is due, and no place is free
-  pub going-full : p .due ≡ true → maxFills ≤ t .«fill_count» → refusedBy s 18 ≡ turned s n
-  going-full f h = turned-full s n (one-left .full ∙ due-full t (sym (found-due t p e) ∙ f) (n - (i + 1)) h)
+  pub going-full : p .due ≡ true → maxFills ≤ t .«fill_count» → refusedBy s 18 ≡ filledBy s n
+  going-full f h = filled-by-full s n (one-left .full ∙ due-full t (sym (found-due t p e) ∙ f) (n - (i + 1)) h)
 
   -- the fill and its event are written in place
   pub going-more : Free t v p
@@ -163,9 +163,9 @@ module _ (s : Session) (n i : ℕ) (t : Session) (v : Events) (p : Pair) (h : i 
       (found-buy t p e, found-sell t p e, ← due-one t d)
       (subst (Going s n (n - (i + 1)) (one t)) (sym (room-pushed v (dueEvent t) (f .event))) (going-fills s n (n - (i + 1)) t v one-left d (f .fill)))
 
-pub going-end : (s : Session) (n i : ℕ) (t : Session) (v : Events) → n ≤ i → Going s n (n - i) t v → _≡_ {A = Answer} (record { refusal = 0; session = t; events = v }) (turned s n)
-unfolding crank overfull fillEvents
+pub going-end : (s : Session) (n i : ℕ) (t : Session) (v : Events) → n ≤ i → Going s n (n - i) t v → _≡_ {A = Answer} (record { refusal = 0; session = t; events = v }) (filledBy s n)
+unfolding afterFills overfull fillEvents
 going-end s n i t v h g =
     let m : n - i ≡ 0 = omega arith in
     let z : Going s n 0 t v = subst (λ (x : ℕ). Going s n x t v) m g in
-    turned-made s n (z .full) t v (sym (z .session)) (z .events ∙ ap packed (sym (z .lines ∙ append-nil (z .made))))
+    filled-by-made s n (z .full) t v (sym (z .session)) (z .events ∙ ap packed (sym (z .lines ∙ append-nil (z .made))))
