@@ -81,7 +81,7 @@ pub struct Live {
 fn live_orders(orders: [Order; MAX_ORDERS], n: usize) -> Live
     ensures { λ r. ⌜ Gathered orders n r ⌝ }
 {
-    let m = at_most_all(n);
+    let m = at_most_orders(n);
     let mut numbers: [u64; MAX_ORDERS] = [0; MAX_ORDERS];
     let mut is_buy: [bool; MAX_ORDERS] = [false; MAX_ORDERS];
     let mut limits: [u64; MAX_ORDERS] = [0; MAX_ORDERS];
@@ -107,7 +107,7 @@ fn live_orders(orders: [Order; MAX_ORDERS], n: usize) -> Live
 }
 
 // A count above the limit is read as the limit.
-pub fn at_most_all(n: usize) -> usize
+pub fn at_most_orders(n: usize) -> usize
     ensures { λ r. ⌜ r ≡ min n maxOrders ⌝ }
 {
     if n < MAX_ORDERS { n } else { MAX_ORDERS }

@@ -13,7 +13,8 @@ use lib.Seq.{length-take-le, take-all, take-at}
 use borrow.Author.Tests.{leb-true, le-leb}
 use Rattle.laws.proofs.Tests.{tested}
 use Rattle.bytes.specs.declared.writing.Written.{Written}
-use Rattle.bytes.specs.Writing.{written, after, Writes, PutAt, Puts}
+use Rattle.bytes.specs.Writing.{written, after, Writes, PutAt}
+use Rattle.bytes.specs.Puts.{Puts}
 use Rattle.bytes.proofs.Fitting.{puts-at}
 
 -- the answer to a text of a length, in a part of so many bytes

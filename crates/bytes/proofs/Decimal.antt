@@ -9,7 +9,7 @@ use borrow.Author.Tests.{lt-ltb, le-ltb}
 use lib.ListN.{length, set, length-append}
 use Rattle.laws.proofs.Tests.{lt-or-le}
 use Rattle.bytes.specs.Decimal.{digits, decimal, maxDigits}
-use Rattle.bytes.specs.Writing.{Puts}
+use Rattle.bytes.specs.Puts.{Puts}
 use Rattle.bytes.proofs.Spliced.{length-puts, puts-puts, puts-byte}
 
 -- more room for digits changes nothing

@@ -10,7 +10,8 @@ use lib.Dec.{leb}
 use lib.ListN.{length}
 use borrow.Author.Tests.{le-leb, lt-leb}
 use Rattle.laws.proofs.Tests.{tested, lt-or-le}
-use Rattle.bytes.specs.Writing.{PutAt, Puts}
+use Rattle.bytes.specs.Writing.{PutAt}
+use Rattle.bytes.specs.Puts.{Puts}
 
 -- the test for room, by what is left from the place on
 pub room-left : (at k len : ℕ) → at ≤ len → leb k (len - at) ≡ leb (at + k) len

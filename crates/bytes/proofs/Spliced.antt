@@ -8,7 +8,8 @@ use native.Mathlib.Numerals.{add-one}
 use native.Mathlib.Omega.{arith}
 use lib.ListN.{length, getD, take, drop, set, length-append, length-drop, take-append-drop, drop-of-length-le}
 use lib.Seq.{length-take-le, take-all, take-at, drop-at, drop-drop, set-split, take-suc}
-use Rattle.bytes.specs.Writing.{splice, Puts}
+use Rattle.bytes.specs.Writing.{splice}
+use Rattle.bytes.specs.Puts.{Puts}
 
 -- a text written after another, over what that one left
 splice-front : (at : ℕ) (p e : List ℕ) → splice at p e ≡ (take at e ++ p) ++ drop (at + length p) e

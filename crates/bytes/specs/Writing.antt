@@ -28,8 +28,3 @@ pub record Writes (text : List ℕ) (r : Written) (before left : List ℕ) : Typ
 pub record PutAt (text : List ℕ) (at next : ℕ) (before left : List ℕ) : Type 0 where
   pub place : next ≡ cond (leb (at + length text) (length before)) (at + length text) at
   pub bytes : left ≡ cond (leb (at + length text) (length before)) (splice at text before) before
-
--- on the way: a text written from a place on, and the next place
-pub record Puts (text : List ℕ) (at next : ℕ) (before left : List ℕ) : Type 0 where
-  pub place : next ≡ at + length text
-  pub bytes : left ≡ splice at text before

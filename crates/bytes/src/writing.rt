@@ -6,7 +6,8 @@ ghost use Prim.Native.Nat.{_+_, _%_, _≤_};
 ghost use lib.Dec.{leb};
 ghost use lib.ListN.{length};
 ghost use Rattle.bytes.specs.Decimal.{decimal, maxDigits};
-ghost use Rattle.bytes.specs.Writing.{Writes, PutAt, Puts};
+ghost use Rattle.bytes.specs.Writing.{Writes, PutAt};
+ghost use Rattle.bytes.specs.Puts.{Puts};
 
 // The most digits of a number of 64 bits.
 pub const MAX_DIGITS: usize = 20;

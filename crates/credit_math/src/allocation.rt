@@ -199,7 +199,7 @@ fn side_total(buys: bool, is_buy: &[bool], limits: &[u64], qtys: &[u64], p: u64)
 }
 
 // What an order adds to a side's total at p: buyers take part at or below their limit, sellers at or above it.
-pub fn added_at(buys: bool, is_buy: bool, limit: u64, qty: u64, p: u64) -> u64
+fn added_at(buys: bool, is_buy: bool, limit: u64, qty: u64, p: u64) -> u64
     ensures { λ r. ⌜ r ≡ added buys «is_buy» limit qty p ⌝ }
 {
     if buys {

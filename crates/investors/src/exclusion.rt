@@ -33,7 +33,7 @@ pub fn investor_exclusion(
 ) -> u8
     ensures { λ r. ⌜ r ≡ investorExclusion orders «order_count» index id «max_cash» ⌝ }
 {
-    let n = book::clear::at_most_all(order_count);
+    let n = book::clear::at_most_orders(order_count);
     let own = own_of(orders, index);
     if trades_itself(orders, n, index, id, own.side) {
         return SELF_TRADE;

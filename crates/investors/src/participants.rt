@@ -133,7 +133,7 @@ fn wallet_at(f: Fill, k: usize) -> [u8; 32]
 fn party_of(orders: [Order; MAX_ORDERS], order_count: usize, w: [u8; 32]) -> Party
     ensures { λ r. ⌜ r ≡ partyOf orders «order_count» w ⌝ }
 {
-    let n = at_most_orders(order_count);
+    let n = book::clear::at_most_orders(order_count);
     let mut i = 0;
     while i < n {
         let o = orders[i];
@@ -148,12 +148,6 @@ fn party_of(orders: [Order; MAX_ORDERS], order_count: usize, w: [u8; 32]) -> Par
         id: [0; 16],
         wallet: w,
     }
-}
-
-fn at_most_orders(n: usize) -> usize
-    ensures { λ r. ⌜ r ≡ min n maxOrders ⌝ }
-{
-    if n < MAX_ORDERS { n } else { MAX_ORDERS }
 }
 
 // Who a wallet counts as whose first order is o.

@@ -8,7 +8,7 @@ use native.Mathlib.Omega.{arith}
 use lib.ListN.{length, getD, take, set}
 use lib.Seq.{take-suc}
 use Rattle.bytes.specs.Decimal.{decimal}
-use Rattle.bytes.specs.Writing.{Puts}
+use Rattle.bytes.specs.Puts.{Puts}
 use Rattle.bytes.proofs.Spliced.{puts-puts, puts-byte}
 use Rattle.listing.specs.declared.words.Parts.{Parts}
 use Rattle.listing.specs.Words.{space, newline}

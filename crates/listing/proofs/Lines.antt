@@ -11,7 +11,7 @@ use lib.ListN.{length, getD, take}
 use lib.Seq.{take-suc}
 use Rattle.events.specs.declared.Event.{Event}
 use Rattle.events.specs.declared.Line.{Line}
-use Rattle.bytes.specs.Writing.{Puts}
+use Rattle.bytes.specs.Puts.{Puts}
 use Rattle.bytes.proofs.Spliced.{puts-puts}
 use Rattle.listing.specs.declared.words.Word.{Word}
 use Rattle.listing.specs.declared.words.Parts.{Parts}

@@ -12,7 +12,8 @@ use lib.ListN.{length, take, drop, length-append, length-drop, drop-of-length-le
 use lib.Seq.{take-all, drop-drop, length-take-le}
 use borrow.Author.Tests.{leb-true, leb-false}
 use Rattle.bytes.specs.declared.writing.Written.{Written}
-use Rattle.bytes.specs.Writing.{splice, written, after, Writes, Puts}
+use Rattle.bytes.specs.Writing.{splice, written, after, Writes}
+use Rattle.bytes.specs.Puts.{Puts}
 
 -- ---- by its answer, a text stands at the start of the part, or is longer than it
 module _ {text before left : List ℕ} {w : Written} (v : Writes text w before left) where

@@ -12,7 +12,8 @@ use borrow.Author.Tests.{le-leb, lt-leb, eqb-true, eqb-false}
 use Rattle.laws.proofs.Tests.{tested}
 use Rattle.bytes.specs.declared.writing.Written.{Written}
 use Rattle.listing.specs.Lines.{recordLines}
-use Rattle.bytes.specs.Writing.{written, Writes, Puts}
+use Rattle.bytes.specs.Writing.{written, Writes}
+use Rattle.bytes.specs.Puts.{Puts}
 use Rattle.bytes.proofs.Spliced.{puts-none, puts-puts}
 use Rattle.auction_engine.specs.declared.Session.{Session}
 use Rattle.session_file.specs.declared.file.Place.{Place}

@@ -1,2 +1,3 @@
 -- Definitions of two-word numbers.
 pub mod Value
+pub mod Partway

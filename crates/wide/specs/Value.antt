@@ -1,6 +1,6 @@
 -- The value of a number of two 64-bit words.
 use mathlib.Core.Path.{_≡_}
-use Prim.Native.Nat.{ℕ, _+_, _-_, _*_, _/_, _%_, _^_, _<_, _≤_}
+use Prim.Native.Nat.{ℕ, _+_, _-_, _*_, _/_, _%_, _^_}
 use lib.Dec.{ltb}
 use Rattle.laws.specs.Search.{first}
 use Rattle.wide.specs.declared.Wide.{Wide}
@@ -30,11 +30,3 @@ bitLength n = first (λ i. ltb n (2 ^ i)) n
 pub record Divided (n d : ℕ) (r : Division) : Type 0 where
   pub quotient : value (r .quotient) ≡ n / d
   pub rest : value (r .rest) ≡ n % d
-
--- what a step of the long division asks, of a quotient q and a remainder r of the digits so far, a divisor d and the next digit b:
--- the remainder is below the divisor, twice the divisor fits two words, and so does the number so far
-pub record Partway (q r d b : ℕ) : Type 0 where
-  pub below : r < d
-  pub twice : 2 * d ≤ modulus
-  pub digit : b < 2
-  pub fits : 2 * (q * d + r) + b < modulus

@@ -2,7 +2,8 @@
 ghost use mathlib.Core.Path.{_≡_};
 ghost use Prim.Native.Nat.{_+_, _-_, _*_, _/_, _%_, _^_, _<_, _≤_, min};
 ghost use lib.Dec.{ltb, eqb};
-ghost use Rattle.wide.specs.Value.{value, modulus, apart, bitLength, Divided, Partway};
+ghost use Rattle.wide.specs.Value.{value, modulus, apart, bitLength, Divided};
+ghost use Rattle.wide.specs.Partway.{Partway};
 
 pub struct Wide {
     pub hi: u64,

@@ -6,7 +6,7 @@ use native.Mathlib.Omega.{arith}
 use borrow.Author.Needs.{needs}
 use lib.ListN.{length, take, length-set}
 use Rattle.bytes.specs.Decimal.{maxDigits}
-use Rattle.bytes.specs.Writing.{Puts}
+use Rattle.bytes.specs.Puts.{Puts}
 use Rattle.bytes.proofs.Spliced.{puts-none}
 use Rattle.bytes.proofs.Fitting.{puts-room}
 use Rattle.listing.specs.Lines.{fields}

@@ -5,7 +5,7 @@ use Prim.Native.Nat.{_*_, _-_, _≤_}
 use native.Mathlib.Omega.{arith}
 use lib.ListN.{length, take, length-take, length-drop}
 use borrow.Author.Needs.{needs}
-use Rattle.bytes.specs.Writing.{Puts}
+use Rattle.bytes.specs.Puts.{Puts}
 use Rattle.bytes.proofs.Spliced.{length-puts, puts-none, puts-part}
 use Rattle.listing.specs.Lines.{eventLines, maxLine}
 use Rattle.listing.proofs.Parts.{event-short, event-line}

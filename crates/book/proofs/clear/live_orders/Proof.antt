@@ -15,8 +15,8 @@ Inv-loop n orders m numbers₀ is-buy₀ limits₀ qtys₀ count₀ i₀ numbers
 abbrev μ-loop : tie.MeasureT-loop
 μ-loop n orders m numbers₀ is-buy₀ limits₀ qtys₀ count₀ i₀ numbers is-buy limits qtys count i = m - i
 
-at-most-all-requires : tie.Need-at-most-all-requires Inv-loop μ-loop
-at-most-all-requires c κs = search needs
+at-most-orders-requires : tie.Need-at-most-orders-requires Inv-loop μ-loop
+at-most-orders-requires c κs = search needs
 
 loop-holds : tie.Need-loop-holds Inv-loop μ-loop
 loop-holds c = (search needs, search needs, collecting _ refl refl refl refl)
@@ -70,7 +70,7 @@ loop-again c =
     (omega arith, collected-few _ more, more)
 
 returns : tie.Need-returns Inv-loop μ-loop
-returns c = collected _ (c .before .loop .inv .2) _ _ (c .before .before .at-most-all .ensures) (c .before .loop .inv .0) (c .loop-test .left)
+returns c = collected _ (c .before .loop .inv .2) _ _ (c .before .before .at-most-orders .ensures) (c .before .loop .inv .0) (c .loop-test .left)
 
 pub live-orders-spec : {M : Type 1} → statement M
 live-orders-spec =
@@ -78,7 +78,7 @@ live-orders-spec =
     (tie.spec
     Inv-loop
     μ-loop
-    at-most-all-requires
+    at-most-orders-requires
     loop-holds
     mul-o
     array-copy-out-o

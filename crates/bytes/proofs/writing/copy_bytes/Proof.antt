@@ -5,7 +5,7 @@ use Prim.Native.Nat.{_+_, _-_, _≤_}
 use native.Mathlib.Omega.{arith}
 use lib.ListN.{length, take, length-set}
 use lib.Seq.{take-all}
-use Rattle.bytes.specs.Writing.{Puts}
+use Rattle.bytes.specs.Puts.{Puts}
 use Rattle.bytes.proofs.Spliced.{puts-start, puts-next}
 use Rattle.bytes.proofs.writing.copy_bytes.Statement.{statement}
 use Rattle.bytes.proofs.writing.copy_bytes.Tie as tie
