@@ -114,6 +114,7 @@ impl Session {
         }
     }
 
+    // The clear, or why it failed, and the change of phase.
     fn clear_events(self, found: Outcome) -> Events
         ensures { λ r. ⌜ r ≡ packed (clearLines self found) ⌝ }
     {
@@ -155,12 +156,14 @@ fn all_screened(orders: [Order; Session::MAX_ORDERS], n: usize) -> bool
     true
 }
 
+// An order that is not revealed needs no screen.
 fn is_ready(o: Order) -> bool
     ensures { λ r. ⌜ r ≡ (not (o .revealed) || o .screened) ⌝ }
 {
     if o.revealed { o.screened } else { true }
 }
 
+// The lot of a clear: all of it is left.
 fn with_lot(o: Order, lot: u64) -> Order
     ensures { λ r. ⌜ r ≡ withLot o lot ⌝ }
 {

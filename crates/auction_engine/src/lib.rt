@@ -231,6 +231,7 @@ pub fn admits(phase: u8, kind: u8) -> bool
     }
 }
 
+// The phases of document 01 in which each kind of call is admitted.
 fn before_clear(phase: u8) -> bool
     ensures { λ r. ⌜ r ≡ (eqb phase 0 || eqb phase 1 || eqb phase 7) ⌝ }
 {
@@ -291,6 +292,7 @@ impl Session {
         self.fields_refusal()
     }
 
+    // 9: a count or a figure above its limit.
     fn limits_refusal(self) -> u8
         ensures { λ r. ⌜ r ≡ limitsRefusal self ⌝ }
     {
@@ -313,6 +315,7 @@ impl Session {
         )
     }
 
+    // 4: a field of the session outside its values.
     fn fields_refusal(self) -> u8
         requires { ⌜ self .«order_count» ≤ maxOrders ⌝ }
         ensures { λ r. ⌜ r ≡ fieldsRefusal self ⌝ }

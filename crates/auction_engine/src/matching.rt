@@ -171,6 +171,7 @@ fn first_due(found: usize, due: bool, i: usize) -> usize
     i + 1
 }
 
+// On that side, with something of its lot left.
 fn is_due(o: Order, side: u8) -> bool
     ensures { λ r. ⌜ r ≡ dueOn side o ⌝ }
 {
@@ -207,6 +208,7 @@ fn fill_of(buy: Order, sell: Order, qty: u64) -> Fill
     }
 }
 
+// The line of a fill at a place, between two orders.
 fn fill_line(at: usize, b: usize, a: usize, qty: u64) -> Line
     requires { ⌜ (at < maxFills) × (b < maxOrders) × (a < maxOrders) ⌝ }
     ensures { λ r. ⌜ r ≡ lineOf (FillAllocated at b a qty) ⌝ }

@@ -107,6 +107,7 @@ impl Session {
         first_of(bought, first_of(settled, above))
     }
 
+    // The fill is split: the issuer has qty of it, in a fill of its own.
     fn with_purchase(self, issuer: [u8; 32], at: usize, qty: u64) -> Session
         requires { ⌜ (at < maxFills) × (self .«fill_count» < maxFills) × (qty ≤ fillAt self at .qty) ⌝ }
         ensures { λ r. ⌜ r ≡ exerciseEffect self issuer at qty ⌝ }
@@ -133,6 +134,7 @@ impl Session {
         next
     }
 
+    // Before the end of the issuer's window.
     fn before_rofr_end(self, now: i64) -> bool
         ensures { λ r. ⌜ r ≡ ltZ now (rofrEnd self) ⌝ }
     {

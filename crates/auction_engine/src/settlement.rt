@@ -175,6 +175,7 @@ impl Session {
         first_of(pending, unfit)
     }
 
+    // What the finish prints, as the policy discloses it.
     fn print_of(self) -> Print
         requires { ⌜ (self .«fill_count» ≤ maxFills) × (self .given .«band_bps» ≤ maxBand) × (self .given .policy ≤ 3) × (movedVolume self < 2 ^ 64) ⌝ }
         ensures { λ r. ⌜ r ≡ printOf self ⌝ }
@@ -305,6 +306,7 @@ fn moved_volume(fills: [Fill; Session::MAX_FILLS], m: usize, skipped: u32) -> Wi
     sum
 }
 
+// What of a fill has moved: nothing, where it was skipped.
 fn moved_qty(f: Fill, skipped: u32, i: usize) -> u64
     requires { ⌜ i < maxFills ⌝ }
     ensures { λ r. ⌜ r ≡ only (not (isSet skipped i)) (f .qty) ⌝ }

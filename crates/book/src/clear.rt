@@ -55,6 +55,7 @@ pub fn floor_of(p: Params, g: Given) -> u64
     if p.forced { 0 } else { g.reserve }
 }
 
+// Refused or failed: no price, and no lot.
 fn no_lots(refusal: u8, failed: u8) -> Outcome
     ensures { λ r. ⌜ r ≡ record { refusal = refusal; failed = failed; price = 0; volume = 0; lots = replicate maxOrders 0 } ⌝ }
 {
@@ -113,6 +114,7 @@ pub fn at_most_orders(n: usize) -> usize
     if n < MAX_ORDERS { n } else { MAX_ORDERS }
 }
 
+// How many places an order takes.
 fn place(kept: bool) -> usize
     ensures { λ r. ⌜ r ≡ cond kept 1 0 ⌝ }
 {
@@ -142,6 +144,7 @@ fn outcome_of(live: Live, reserve: u64, reference: u64) -> Outcome
     }
 }
 
+// Price, volume and lots, or 17 where the volume does not fit.
 fn priced(live: Live, price: u64, executed: Wide) -> Outcome
     requires { ⌜ FromBook live ⌝ }
     ensures { λ r. ⌜ Priced live price (value executed) r ⌝ }
@@ -197,6 +200,7 @@ pub struct Side {
     pub count: usize,
 }
 
+// A side's orders that trade at a price, one behind the other.
 fn side_orders(buys: bool, live: Live, p: u64) -> Side
     requires { ⌜ FromBook live ⌝ }
     ensures { λ r. ⌜ Trading live buys p r ⌝ }

@@ -89,6 +89,7 @@ pub fn time_at(rec: &[u8], at: usize) -> i64
     signed_of(u64_at(rec, at))
 }
 
+// The time that 64 bits say, in two's complement.
 fn signed_of(x: u64) -> i64
     ensures { λ r. ⌜ r ≡ signed x ⌝ }
 {

@@ -316,6 +316,7 @@ fn lot_of(total: u64, sum_qty: Wide, left: u64, ids: &[u64], qtys: &[u64], i: us
     share + unit(turn < left)
 }
 
+// One unit, or none.
 pub fn unit(given: bool) -> u64
     ensures { λ r. ⌜ r ≡ only given 1 ⌝ }
 {

@@ -70,6 +70,7 @@ pub fn disclose(policy: u8, band_bps: u64, price: u64, volume: u64) -> Disclosed
     shown_of(policy, band_bps, price, volume)
 }
 
+// No figure, with the number that refuses one.
 fn withheld(refusal: u8) -> Disclosed
     ensures { λ r. ⌜ r ≡ record { refusal = refusal; price = 0; volume = 0 } ⌝ }
 {
@@ -80,6 +81,7 @@ fn withheld(refusal: u8) -> Disclosed
     }
 }
 
+// By the policy: all; the price in its band; the volume alone; nothing.
 fn shown_of(policy: u8, band_bps: u64, price: u64, volume: u64) -> Disclosed
     requires { ⌜ «band_bps» ≤ maxBand ⌝ }
     ensures { λ r. ⌜ r ≡ shown policy «band_bps» price volume ⌝ }

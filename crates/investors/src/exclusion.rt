@@ -87,6 +87,7 @@ fn trades_itself(
     false
 }
 
+// Another live order of the investor's, on the other side.
 fn opposes(o: Order, j: usize, index: usize, id: [u8; 16], side: u8) -> bool
     ensures { λ r. ⌜ r ≡ (not (eqb j index) && isLive o && not (same (o .«investor_id») noInvestor) && same (o .«investor_id») id) && not (eqb (o .side) side) ⌝ }
 {
@@ -128,6 +129,7 @@ fn cash_of(orders: [Order; MAX_ORDERS], n: usize, index: usize, id: [u8; 16], es
     sum
 }
 
+// The cash of another live buy of the investor's.
 fn cash_in(o: Order, j: usize, index: usize, id: [u8; 16]) -> u64
     ensures { λ r. ⌜ r ≡ only ((not (eqb j index) && isLive o && not (same (o .«investor_id») noInvestor) && same (o .«investor_id») id) && isBuy o) (o .escrowed) ⌝ }
 {

@@ -99,6 +99,7 @@ fn place_of(orders: [Order; MAX_ORDERS], n: usize, f: Fill, skipped: u32, k: usi
     }
 }
 
+// A fill with a quantity that was not skipped.
 fn has_moved(f: Fill, skipped: u32, i: u32) -> bool
     requires { ⌜ i < maxFills ⌝ }
     ensures { λ r. ⌜ r ≡ not (eqb (f .qty) 0) && not (isSet skipped i) ⌝ }
@@ -163,6 +164,7 @@ fn party_by(o: Order, w: [u8; 32]) -> Party
     }
 }
 
+// How many places have a party that no place before has.
 fn count_new(places: [Place; MAX_PLACES], n: usize) -> u64
     requires { ⌜ n ≤ 2 * maxFills ⌝ }
     ensures { λ r. ⌜ r ≡ count (isNew (placeIn places)) n ⌝ }

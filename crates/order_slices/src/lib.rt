@@ -136,6 +136,7 @@ fn search(copy: Entries, n: usize, reserve: u64, reference: u64) -> Figures
     search_first(is_buy, limits, qtys, n, reserve, reference)
 }
 
+// The first n entries, lent to the search.
 fn search_first(
     is_buy: [bool; MAX_ORDERS],
     limits: [u64; MAX_ORDERS],
@@ -170,6 +171,7 @@ fn allot(total: u64, copy: Entries, n: usize, out: &mut [u64]) -> u8
     allot_first(total, ids, qtys, n, out)
 }
 
+// The first n entries, lent to pro-rata.
 fn allot_first(
     total: u64,
     ids: [u64; MAX_ORDERS],
@@ -184,6 +186,7 @@ fn allot_first(
     allocation::allocate_pro_rata(total, &ids[..n], &qtys[..n], out)
 }
 
+// The answer as plain numbers, for a host.
 pub fn figures_of(answer: Clearing) -> Figures
     ensures { λ r. ⌜ r ≡ figuresOf (found answer) ⌝ }
 {

@@ -119,6 +119,7 @@ fn early_refusal(refusal: u8, f: Fields) -> u8
     }
 }
 
+// What is said of a refusal, and of a header.
 pub(crate) fn refused(number: u8) -> EventPair
     ensures { λ r. ⌜ r ≡ eventPair (Refused number ∷ []) ⌝ }
 {

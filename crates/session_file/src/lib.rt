@@ -116,6 +116,7 @@ fn ended(at: usize, last: Written) -> Written
     Written { refusal: 0, len }
 }
 
+// What a refusal leaves in the output.
 fn zero(out: &mut [u8])
     ensures { λ _. ⌜ now (out .exit) ≡ replicate (length (now (out .entry))) 0 ⌝ }
 {

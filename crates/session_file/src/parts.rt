@@ -144,6 +144,7 @@ struct Handled {
     said: Events,
 }
 
+// By what is to be done with the record.
 fn handle(session: Session, step: Step, change: Change, f: Fields) -> Handled
     ensures { λ r. ⌜ r ≡ handledBy session step change f ⌝ }
 {
