@@ -1,16 +1,17 @@
--- A number in base ten: its last digit after those of its tenth, at most 20 digits of 64 bits, and how they are written.
+-- A number in base ten: its last digit after those of its tenth, its last two after those of its hundredth, at most 20 digits of 64 bits, and how
+-- they are written.
 -- Assumes nothing.
 use mathlib.Core.Path.{_≡_, ap}
 use mathlib.Core.Logic.{⊎-elim}
-use mathlib.Core.List.{List, [], _∷_, _++_}
+use mathlib.Core.List.{List, [], _∷_, _++_, append-assoc}
 use Prim.Native.Nat.{ℕ, zero, suc, _+_, _*_, _/_, _%_, _^_, _<_, _≤_}
 use native.Mathlib.Omega.{arith}
 use borrow.Author.Tests.{lt-ltb, le-ltb}
-use lib.ListN.{length, set, length-append}
+use lib.ListN.{length, set, length-set, length-append}
 use Rattle.laws.proofs.Tests.{lt-or-le}
 use Rattle.bytes.specs.Decimal.{digits, decimal, maxDigits}
 use Rattle.bytes.specs.Puts.{Puts}
-use Rattle.bytes.proofs.Spliced.{length-puts, puts-puts, puts-byte}
+use Rattle.bytes.proofs.Spliced.{puts-puts, puts-byte}
 
 -- more room for digits changes nothing
 digits-enough : (k m x : ℕ) → x < k → x < m → digits k x ≡ digits m x
@@ -31,7 +32,19 @@ decimal-more : (x : ℕ) → 10 ≤ x → decimal x ≡ decimal (x / 10) ++ ((48
 unfolding decimal digits
 decimal-more x h = rw (le-ltb x 10 h) (ap (λ (l : List ℕ). l ++ ((48 + x % 10) ∷ [])) (digits-enough x (suc (x / 10)) (x / 10) (omega arith) (omega arith)))
 
-length-one : (x : ℕ) → x < 10 → length (decimal x) ≡ 1
+-- the last two digits, alone and after those of the hundredth
+abbrev lastTwo : ℕ → List ℕ
+lastTwo x = (48 + x / 10 % 10) ∷ (48 + x % 10) ∷ []
+
+pub decimal-two : (x : ℕ) → 10 ≤ x → x < 100 → decimal x ≡ lastTwo x
+decimal-two x h small = rw (decimal-more x h, decimal-one (x / 10) (omega arith))
+
+pub decimal-hundreds : (x : ℕ) → 100 ≤ x → decimal x ≡ decimal (x / 100) ++ lastTwo x
+decimal-hundreds x h =
+    let e : x / 10 / 10 ≡ x / 100 = omega arith in
+    rw (decimal-more x (omega arith), decimal-more (x / 10) (omega arith), e, append-assoc)
+
+pub length-one : (x : ℕ) → x < 10 → length (decimal x) ≡ 1
 length-one x h = rw (decimal-one x h)
 
 length-more : (x : ℕ) → 10 ≤ x → length (decimal x) ≡ length (decimal (x / 10)) + 1
@@ -53,15 +66,18 @@ few-digits (suc k) x h =
 pub most-digits : (x : ℕ) → x < 2 ^ 64 → length (decimal x) ≤ maxDigits
 most-digits x h = few-digits 19 x (omega arith)
 
--- a tenth of such a number has fewer
-pub tenth-digits : (x : ℕ) → 10 ≤ x → x < 2 ^ 64 → length (decimal (x / 10)) < maxDigits
-tenth-digits x h fits = omega (arith, length-more x h, most-digits x fits)
+-- a hundredth of such a number has two fewer
+pub hundredth-digits : (x : ℕ) → 100 ≤ x → x < 2 ^ 64 → length (decimal (x / 100)) + 2 ≤ maxDigits
+hundredth-digits x h fits =
+    let e : length (decimal x) ≡ length (decimal (x / 100)) + 2 = rw (decimal-hundreds x h, length-append) in
+    omega (arith, most-digits x fits)
 
--- a number's only digit, and its last after the others
+-- the only digit of a number
 pub puts-digit : (x d at : ℕ) (e : List ℕ) → x < 10 → d ≡ 48 + x % 10 → at < length e → Puts (decimal x) at (at + 1) e (set e at d)
 puts-digit x d at e h is fits = rw (decimal-one x h, ← is) (puts-byte at d e fits)
 
-pub puts-digits : (x d at k : ℕ) {e e′ : List ℕ} → 10 ≤ x → d ≡ 48 + x % 10 → at + length (decimal (x / 10)) < length e → Puts (decimal (x / 10)) at k e e′
-    → Puts (decimal x) at (k + 1) e (set e′ k d)
-puts-digits x d at k {e} {e′} h is fits w =
-    rw (decimal-more x h, ← is) (puts-puts w (puts-byte k d e′ (omega (arith, length-puts w (omega arith), w .place))) (omega arith))
+-- the last two, written one after the other
+pub puts-pair : (x d d′ at : ℕ) (e : List ℕ) → d ≡ 48 + x / 10 % 10 → d′ ≡ 48 + x % 10 → at + 2 ≤ length e → Puts (lastTwo x) at (at + 2) e (set (set e at d) (at + 1) d′)
+puts-pair x d d′ at e is is′ fits =
+    let two : at + 2 ≡ at + 1 + 1 = omega arith in
+    rw (← is, ← is′, two) (puts-puts (puts-byte at d e (omega arith)) (puts-byte (at + 1) d′ (set e at d) (rw length-set (omega arith))) (omega arith))

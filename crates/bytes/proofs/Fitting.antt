@@ -1,26 +1,28 @@
 -- A text put at a place: what was written where it fits, and nothing where it does not.
 -- Assumes nothing.
-use mathlib.Core.Path.{_≡_, sym, _∙_}
+use mathlib.Core.Path.{_≡_, refl, sym, _∙_}
 use mathlib.Core.Logic.{⊎-elim}
 use mathlib.Core.Bool.{true, false}
 use mathlib.Core.List.{List}
-use Prim.Native.Nat.{ℕ, _+_, _-_, _<_, _≤_}
+use Prim.Native.Nat.{ℕ, _+_, _-_, _%_, _<_, _≤_}
 use native.Mathlib.Omega.{arith}
 use lib.Dec.{leb}
-use lib.ListN.{length}
+use lib.ListN.{length, set}
 use borrow.Author.Tests.{le-leb, lt-leb}
 use Rattle.laws.proofs.Tests.{tested, lt-or-le}
+use Rattle.bytes.specs.Decimal.{decimal}
 use Rattle.bytes.specs.Writing.{PutAt}
 use Rattle.bytes.specs.Puts.{Puts}
+use Rattle.bytes.proofs.Decimal.{length-one, puts-digit}
 
--- the test for room, by what is left from the place on
-pub room-left : (at k len : ℕ) → at ≤ len → leb k (len - at) ≡ leb (at + k) len
+-- the test for room, by the last place that has it
+pub room-left : (at k len : ℕ) → k ≤ len → leb at (len - k) ≡ leb (at + k) len
 room-left at k len h =
-    ⊎-elim (λ (g : len < at + k). lt-leb k (len - at) (omega arith) ∙ sym (lt-leb (at + k) len g))
-    (λ (g : at + k ≤ len). le-leb k (len - at) (omega arith) ∙ sym (le-leb (at + k) len g))
+    ⊎-elim (λ (g : len < at + k). lt-leb at (len - k) (omega arith) ∙ sym (lt-leb (at + k) len g))
+    (λ (g : at + k ≤ len). le-leb at (len - k) (omega arith) ∙ sym (le-leb (at + k) len g))
     (lt-or-le len (at + k))
 
-pub room-past : (at k len : ℕ) → len < at → false ≡ leb (at + k) len
+pub room-past : (at k len : ℕ) → len < k → false ≡ leb (at + k) len
 room-past at k len h = sym (lt-leb (at + k) len (omega arith))
 
 module _ {text : List ℕ} {at next : ℕ} {before left : List ℕ} where
@@ -46,3 +48,11 @@ module _ {text : List ℕ} {at next : ℕ} {before left : List ℕ} where
       ⊎-elim (λ (t : leb (at + length text) (length before) ≡ true). let e : next ≡ at + length text = rw t at (p .place) in omega arith)
       (λ (t : leb (at + length text) (length before) ≡ false). let e : next ≡ at = rw t at (p .place) in omega arith)
       (tested (leb (at + length text) (length before)))
+
+-- a number of one digit
+module _ (x at : ℕ) (e : List ℕ) (small : x < 10) where
+  pub put-one : (d : ℕ) → d ≡ 48 + x % 10 → at < length e → PutAt (decimal x) at (at + 1) e (set e at d)
+  put-one d is h = put-where (puts-digit x d at e small is h) (omega (arith, length-one x small))
+
+  pub put-none : length e ≤ at → PutAt (decimal x) at at e e
+  put-none h = put-nowhere (lt-leb (at + length (decimal x)) (length e) (omega (arith, length-one x small))) refl refl

@@ -10,8 +10,8 @@ pub mod writing;
 fn holds(len: usize, at: usize, k: usize) -> bool
     ensures { λ r. ⌜ r ≡ leb (at + k) len ⌝ }
 {
-    if at <= len {
-        return k <= len - at;
+    if k <= len {
+        return at <= len - k;
     }
     false
 }

@@ -2,7 +2,8 @@
 // the caller.
 ghost use mathlib.Core.Path.{_≡_};
 ghost use mathlib.Core.Bool.{cond};
-ghost use Prim.Native.Nat.{_+_, _%_, _≤_};
+ghost use mathlib.Core.List.{[], _∷_};
+ghost use Prim.Native.Nat.{_+_, _/_, _%_, _<_, _≤_};
 ghost use lib.Dec.{leb};
 ghost use lib.ListN.{length};
 ghost use Rattle.bytes.specs.Decimal.{decimal, maxDigits};
@@ -67,6 +68,9 @@ fn copy_bytes(out: &mut [u8], at: usize, bytes: &[u8]) -> usize
 pub fn put_dec(out: &mut [u8], at: usize, x: u64) -> usize
     ensures { λ r. ⌜ PutAt (decimal x) at r (now (out .entry)) (now (out .exit)) × (length (decimal x) ≤ maxDigits) ⌝ }
 {
+    if x < 10 {
+        return put_digit(out, at, x);
+    }
     if crate::holds(out.len(), at, MAX_DIGITS) {
         return put_digits(out, at, x);
     }
@@ -75,7 +79,19 @@ pub fn put_dec(out: &mut [u8], at: usize, x: u64) -> usize
     put_bytes(out, at, &text[..len])
 }
 
-// The digits of x, where any number fits.
+// A number of one digit.
+fn put_digit(out: &mut [u8], at: usize, x: u64) -> usize
+    requires { ⌜ x < 10 ⌝ }
+    ensures { λ r. ⌜ PutAt (decimal x) at r (now (out .entry)) (now (out .exit)) ⌝ }
+{
+    if at < out.len() {
+        out[at] = digit(x);
+        return at + 1;
+    }
+    at
+}
+
+// The digits of x, where any number fits: the last two after those of its hundredth.
 fn put_digits(out: &mut [u8], at: usize, x: u64) -> usize
     requires { ⌜ at + maxDigits ≤ length (now out) ⌝ }
     ensures { λ r. ⌜ Puts (decimal x) at r (now (out .entry)) (now (out .exit)) × (r ≤ at + maxDigits) ⌝ }
@@ -84,9 +100,21 @@ fn put_digits(out: &mut [u8], at: usize, x: u64) -> usize
         out[at] = digit(x);
         return at + 1;
     }
-    let k = put_digits(out, at, x / 10);
-    out[k] = digit(x);
-    k + 1
+    if x < 100 {
+        return put_two(out, at, x);
+    }
+    let k = put_digits(out, at, x / 100);
+    put_two(out, k, x)
+}
+
+// The last two digits of x.
+fn put_two(out: &mut [u8], at: usize, x: u64) -> usize
+    requires { ⌜ at + 2 ≤ length (now out) ⌝ }
+    ensures { λ r. ⌜ Puts ((48 + x / 10 % 10) ∷ (48 + x % 10) ∷ []) at r (now (out .entry)) (now (out .exit)) ⌝ }
+{
+    out[at] = digit(x / 10);
+    out[at + 1] = digit(x);
+    at + 2
 }
 
 // The last digit of x.

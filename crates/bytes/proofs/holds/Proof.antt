@@ -1,4 +1,4 @@
--- `bytes::holds` meets its contract, by what is left from the place on.
+-- `bytes::holds` meets its contract, by the last place that has room.
 -- Assumes nothing.
 use Rattle.bytes.proofs.Fitting.{room-left, room-past}
 use Rattle.bytes.proofs.holds.Statement.{statement}
