@@ -57,7 +57,7 @@ impl Session {
 
     // Refused for sure by its phase; else undecided.
     pub(crate) fn allocate_change(self) -> Change
-        ensures { λ r. ⌜ r ≡ early self (only (not (call.admits (self .phase) 2)) (allocateChecks self)) ⌝ }
+        ensures { λ r. ⌜ r ≡ early self (only (not (call.admits (self .phase) call.allocateKind)) (allocateChecks self)) ⌝ }
     {
         if crate::admits(self.phase, crate::ALLOCATE) {
             return self.early(0);

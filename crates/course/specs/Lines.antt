@@ -34,9 +34,13 @@ pub record Told : Type 0 where
   pub prints : List Print
   pub complete : Bool
 
+-- what is told, by its parts
+abbrev pub toldOf : List Purchase → (skipped : List ℕ) (skippedQty crankFills : ℕ) → List Print → (complete : Bool) → Told
+toldOf bs sk sq n ps c = record { purchases = bs; skipped = sk; skippedQty = sq; crankFills = n; prints = ps; complete = c }
+
 -- before the first line
 abbrev pub nothingTold : Told
-nothingTold = record { purchases = []; skipped = []; skippedQty = 0; crankFills = 0; prints = []; complete = false }
+nothingTold = toldOf [] [] 0 0 [] false
 
 -- one line more: `rofr F NEW QTY PRICE` is a purchase of QTY of F; `skip F QTY REASON` skips F and its QTY; `fill ..` is a crank's fill; 'the
 -- print is the numbers after the word'; the matching is complete from a change of phase out of Allocating until Deadline, `failed 4`
@@ -45,19 +49,19 @@ tell t Nothing = t
 tell t (OrderScreened order exclusion) = t
 tell t (Cleared price volume reserve reference) = t
 tell t (SessionFailed reason) =
-    record { purchases = t .purchases; skipped = t .skipped; skippedQty = t .skippedQty; crankFills = t .crankFills; prints = t .prints; complete = t .complete && not (eqb reason 4) }
+    toldOf (t .purchases) (t .skipped) (t .skippedQty) (t .crankFills) (t .prints) (t .complete && not (eqb reason 4))
 tell t (FillAllocated fill buy sell qty) =
-    record { purchases = t .purchases; skipped = t .skipped; skippedQty = t .skippedQty; crankFills = t .crankFills + 1; prints = t .prints; complete = t .complete }
+    toldOf (t .purchases) (t .skipped) (t .skippedQty) (t .crankFills + 1) (t .prints) (t .complete)
 tell t (RofrExercised fill new qty price) =
-    record { purchases = record { fill = fill; qty = qty } ∷ t .purchases; skipped = t .skipped; skippedQty = t .skippedQty; crankFills = t .crankFills; prints = t .prints; complete = t .complete }
+    toldOf (record { fill = fill; qty = qty } ∷ t .purchases) (t .skipped) (t .skippedQty) (t .crankFills) (t .prints) (t .complete)
 tell t (RofrClosed qty) = t
 tell t (FillSettled fill qty price) = t
 tell t (FillSkipped fill qty reason) =
-    record { purchases = t .purchases; skipped = fill ∷ t .skipped; skippedQty = t .skippedQty + qty; crankFills = t .crankFills; prints = t .prints; complete = t .complete }
+    toldOf (t .purchases) (fill ∷ t .skipped) (t .skippedQty + qty) (t .crankFills) (t .prints) (t .complete)
 tell t (ClearingPrint print) =
-    record { purchases = t .purchases; skipped = t .skipped; skippedQty = t .skippedQty; crankFills = t .crankFills; prints = print ∷ t .prints; complete = t .complete }
+    toldOf (t .purchases) (t .skipped) (t .skippedQty) (t .crankFills) (print ∷ t .prints) (t .complete)
 tell t (PhaseChanged from to) =
-    record { purchases = t .purchases; skipped = t .skipped; skippedQty = t .skippedQty; crankFills = t .crankFills; prints = t .prints; complete = t .complete || (eqb from allocating && not (eqb to failed)) }
+    toldOf (t .purchases) (t .skipped) (t .skippedQty) (t .crankFills) (t .prints) (t .complete || (eqb from allocating && not (eqb to failed)))
 tell t Opened = t
 tell t (Ordered order) = t
 tell t (Refused refusal) = t
@@ -70,7 +74,7 @@ tellAll t (e ∷ es) = tellAll (tell t e) es
 -- the notes of a run that lines tell
 abbrev pub notesOf : Run → Told
 notesOf r =
-    record { purchases = r .purchases; skipped = r .skipped; skippedQty = r .skippedQty; crankFills = r .crankFills; prints = r .prints; complete = r .complete }
+    toldOf (r .purchases) (r .skipped) (r .skippedQty) (r .crankFills) (r .prints) (r .complete)
 
 -- 'Settled .. fills are the fill numbers of the accepted settles', the latest first: a fill that the issuer took whole is settled without a line
 abbrev pub settledBy : Session → Call → List ℕ
