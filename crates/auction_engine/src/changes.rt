@@ -71,7 +71,7 @@ impl Session {
     }
 
     // Nothing is changed; the refusal is the caller's.
-    pub fn unchanged(self, refusal: u8) -> Change
+    pub(crate) fn unchanged(self, refusal: u8) -> Change
         ensures { λ r. ⌜ r ≡ unchanged self refusal ⌝ }
     {
         let mut c = self.keeping(EventPair::none());

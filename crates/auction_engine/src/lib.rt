@@ -214,7 +214,7 @@ pub fn arguments_refusal(call: CallRecord) -> u8
 }
 
 // Whether a call of that kind is let in at that phase.
-pub fn admits(phase: u8, kind: u8) -> bool
+pub(crate) fn admits(phase: u8, kind: u8) -> bool
     ensures { λ r. ⌜ r ≡ admits phase kind ⌝ }
 {
     match kind {

@@ -130,7 +130,7 @@ fn owner_seen(orders: [Order; Session::MAX_ORDERS], n: usize, owner: [u8; 32]) -
 }
 
 // What one order more changes, or the number that refuses it.
-pub fn order_change(s: Session, row: Row) -> Change
+pub(crate) fn order_change(s: Session, row: Row) -> Change
     ensures { λ r. ⌜ r ≡ orderChange s row ⌝ }
 {
     let refusal = order_refusal(s, row);

@@ -45,7 +45,7 @@ pub fn record_at(input: &[u8], place: Place) -> Record
 }
 
 // The one dispatch. An unknown mark has no fields.
-pub fn read(mark: Mark, rec: &[u8]) -> Fields
+fn read(mark: Mark, rec: &[u8]) -> Fields
     ensures { λ r. ⌜ r ≡ fieldsIn (fieldsOf mark (now (rec .entry))) ⌝ }
 {
     match mark {

@@ -40,7 +40,7 @@ pub const ORDER: u8 = 2;
 pub const CALL: u8 = 3;
 
 // The mark of two bytes, read as one little-endian number.
-pub fn mark_of(m: u16) -> Mark
+fn mark_of(m: u16) -> Mark
     ensures { λ r. ⌜ r ≡ markOf m ⌝ }
 {
     match m {
@@ -69,7 +69,7 @@ pub struct Shape {
 }
 
 // The one table of the marks.
-pub fn shape_of(m: Mark) -> Shape
+fn shape_of(m: Mark) -> Shape
     ensures { λ r. ⌜ r ≡ shapeIn (shapeOf m) ⌝ }
 {
     match m {
