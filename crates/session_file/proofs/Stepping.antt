@@ -7,7 +7,7 @@ use Prim.Native.Nat.{ℕ, _+_, _<_, _≤_}
 use native.Mathlib.Omega.{arith}
 use lib.Dec.{eqb, leb}
 use lib.ListN.{length, drop, length-drop}
-use borrow.Author.Tests.{eq-eqb, ne-eqb, eqb-true, eqb-false}
+use borrow.Author.Tests.{eq-eqb, ne-eqb, eqb-true, eqb-false, not-false}
 use Rattle.laws.specs.Checks.{unless, _then_}
 use Rattle.laws.proofs.Tests.{tested}
 use Rattle.laws.proofs.Checking.{then-pass}
@@ -139,10 +139,6 @@ kind-in (call c) = refl
 cond-not : {A : Type 0} (t : Bool) (a b : A) → cond (not t) a b ≡ cond t b a
 cond-not true a b = refl
 cond-not false a b = refl
-
-not-false : (t : Bool) → not t ≡ false → t ≡ true
-not-false true h = refl
-not-false false h = absurd (false≢true (sym h))
 
 module _ (x : Session) (stage : ℕ) where
   abbrev st : State
