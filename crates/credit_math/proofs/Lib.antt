@@ -1,4 +1,5 @@
 -- Laws of the price search and of pro-rata.
+pub mod Rounding
 pub mod Best
 pub mod Price
 pub mod Search

@@ -1,17 +1,23 @@
--- What is proved of the definitions: proofs/PriceTheorems.antt and proofs/ProRataTheorems.antt.
+-- What is proved of the definitions: proofs/Rounding.antt, proofs/PriceTheorems.antt and proofs/ProRataTheorems.antt.
 use mathlib.Core.Path.{_≡_}
 use mathlib.Core.Logic.{_≢_, _↔_}
 use mathlib.Core.Bool.{Bool, true}
 use mathlib.Core.List.{List}
-use Prim.Native.Nat.{ℕ, _+_, _^_, _≤_, _<_}
+use Prim.Native.Nat.{ℕ, _+_, _*_, _^_, _≤_, _<_}
 use lib.Dec.{ltb}
 use lib.ListN.{length, getD}
 use Rattle.laws.specs.Sums.{count, sumOf}
 use Rattle.laws.specs.Lists.{Member}
 use Rattle.credit_math.specs.Limits.{maxOrders, sideBits, volumeBits}
 use Rattle.credit_math.specs.Error.{badLength, noCross}
+use Rattle.credit_math.specs.Rounding.{ceilDiv}
 use Rattle.credit_math.specs.Price.{buy, sell, executed, better, priceRefusal, findUniformClearPrice, Found, refused, failed, cross}
 use Rattle.credit_math.specs.ProRata.{share, residue, lots}
+
+-- 'rounded up': of the numbers that, times b, come to a or more, the least
+pub record RoundsUp (a b : ℕ) : Type 0 where
+  pub enough : a ≤ ceilDiv a b * b
+  pub least : (m : ℕ) → a ≤ m * b → ceilDiv a b ≤ m
 
 module _ (isBuy : List Bool) (limits qtys : List ℕ) where
   -- p is a candidate, an order's limit at or above the reserve, and executes something
