@@ -1,4 +1,4 @@
-// The numbers of document 01's 'Turning away, by place', each once: the source's error where it has one, and the document's words.
+// The numbers of document 01's 'Turning away, by place', and of document 02's tickets, each once: the source's error where it has one, and the document's words.
 
 // No whole mark; body cut.
 pub const NO_RECORD: u8 = 1;
@@ -60,3 +60,5 @@ pub const INVALID_INPUT: u8 = 28;
 pub const OVER_ALLOCATION: u8 = 29;
 // Over 16 entries or lent slices of unequal length.
 pub const BAD_LENGTH: u8 = 30;
+// BidExceedsEscrow, AskExceedsEscrow: an uncovered order.
+pub const EXCEEDS_ESCROW: u8 = 31;

@@ -1,0 +1,3 @@
+-- Laws of escrow cover.
+pub mod Powers
+pub mod Covers

@@ -1,0 +1,30 @@
+-- `escrow::cover_refusal` meets its contract, by the arms.
+-- Assumes nothing.
+use borrow.Author.Needs.{needs}
+use Rattle.escrow.specs.Cover.{coverRefusal}
+use Rattle.escrow.proofs.cover_refusal.Statement.{statement}
+use Rattle.escrow.proofs.cover_refusal.Tie as tie
+
+enum-told : tie.Need-enum-told
+enum-told c = search needs
+
+enum-known-cover : tie.Need-enum-known-cover
+enum-known-cover c = search needs
+
+covered-requires : tie.Need-covered-requires
+covered-requires c κs = search needs
+
+unless-requires : tie.Need-unless-requires
+unless-requires c κs = search needs
+
+returns : tie.Need-returns
+unfolding coverRefusal
+returns c = rw (c .enum-told .given .1)
+
+returns-2 : tie.Need-returns-2
+unfolding coverRefusal
+returns-2 c = rw (c .unless .ensures, c .before .covered .ensures, c .before .before .before .cover .given .1)
+
+pub cover-refusal-spec : {M : Type 1} → statement M
+cover-refusal-spec =
+    tie.close (tie.spec enum-told enum-known-cover covered-requires unless-requires returns returns-2)

@@ -1,0 +1,3 @@
+-- Escrow cover, from document 02, ticket 1.
+pub mod Cover
+pub mod Claims
