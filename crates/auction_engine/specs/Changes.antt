@@ -12,6 +12,7 @@ use Rattle.book.specs.Book.{listed}
 use Rattle.book.specs.declared.Order.{Order}
 use Rattle.book.specs.declared.Fill.{Fill}
 use Rattle.book.specs.declared.Row.{Row}
+use Rattle.escrow.specs.declared.Cover.{Cover}
 use Rattle.events.specs.Events.{eventPair, pairEvents, packed}
 use Rattle.events.specs.declared.Event.the-variants.{Ordered}
 use Rattle.events.specs.declared.EventPair.{EventPair}
@@ -87,14 +88,14 @@ unfoldable pub changeFor : Session → CallRecord → Change
 changeFor s r = cond (leb (r .kind) expireKind) (changeOf s (callOf r)) (unchanged s (limitsRefusal s then 4))
 
 -- the change of an `OR` record: one order more, and its line
-unfoldable pub orderChange : Session → Row → Change
-orderChange s row =
-    cond (eqb (orderRefusal s row) 0) (writing (withOrder s row) false (s .«order_count») (listed row) 0 (fillAt s 0) 0 (eventPair (Ordered (s .«order_count») ∷ [])))
-    (unchanged s (orderRefusal s row))
+unfoldable pub orderChange : Session → Cover → Row → Change
+orderChange s cover row =
+    cond (eqb (orderRefusal s cover row) 0) (writing (withOrder s row) false (s .«order_count») (listed row) 0 (fillAt s 0) 0 (eventPair (Ordered (s .«order_count») ∷ [])))
+    (unchanged s (orderRefusal s cover row))
 
 -- what an order changes, or else a call record
-unfoldable pub recordChange : Session → (isOrder : Bool) → Row → CallRecord → Change
-recordChange s isOrder row r = cond isOrder (orderChange s row) (changeFor s r)
+unfoldable pub recordChange : Session → (isOrder : Bool) → Cover → Row → CallRecord → Change
+recordChange s isOrder cover row r = cond isOrder (orderChange s cover row) (changeFor s r)
 
 -- a session with a change written
 abbrev pub changed : Session → Change → Session

@@ -1,6 +1,5 @@
 // What a call changes: small enough to be written where the session lives, so that whoever holds a session keeps it in place.
 ghost use mathlib.Core.Path.{_≡_};
-ghost use mathlib.Core.List.{[]};
 ghost use lib.ListN.{set};
 ghost use Rattle.auction_engine.specs.Session.{atPhase};
 ghost use Rattle.auction_engine.specs.Changes.{keeping, unchanged, early, recordChange, changed, madeOf};
@@ -11,6 +10,7 @@ use crate::opening;
 use book::Fill;
 use book::Order;
 use book::Row;
+use escrow::Cover;
 use events::EventPair;
 
 pub struct Change {
@@ -31,11 +31,11 @@ pub struct Change {
 
 impl Session {
     // What an order that a file lists changes, or else the call that a record says.
-    pub fn change(self, order: bool, row: Row, call: CallRecord) -> Change
-        ensures { λ r. ⌜ r ≡ recordChange self order row call ⌝ }
+    pub fn change(self, order: bool, cover: Cover, row: Row, call: CallRecord) -> Change
+        ensures { λ r. ⌜ r ≡ recordChange self order cover row call ⌝ }
     {
         if order {
-            return opening::order_change(self, row);
+            return opening::order_change(self, cover, row);
         }
         let kind = call.kind;
         let id = call.id;

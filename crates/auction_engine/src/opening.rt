@@ -1,4 +1,4 @@
-// The rows `SH` and `OR`: what opens a session.
+// The rows `SH`, `SI` and `OR`: what opens a session.
 ghost use mathlib.Core.Path.{_≡_};
 ghost use mathlib.Core.Bool.{true, false, cond, not, _&&_, _||_};
 ghost use Prim.Native.Nat.{_+_, _<_, _≤_};
@@ -11,7 +11,7 @@ ghost use Rattle.laws.specs.Checks.{unless, _then_};
 ghost use Rattle.clock.specs.Clock.{sumFits};
 ghost use Rattle.credit_math.specs.Limits.{maxOrders};
 ghost use Rattle.book.specs.Book.{orderIn, noWallet};
-ghost use Rattle.auction_engine.specs.Opening.{headerRefusal, orderRefusal};
+ghost use Rattle.auction_engine.specs.Opening.{headerRefusal, rowRefusal, orderRefusal};
 ghost use Rattle.auction_engine.specs.Changes.{orderChange};
 use crate::Session;
 use crate::changes::Change;
@@ -19,6 +19,7 @@ use book::Given;
 use book::Order;
 use book::Params;
 use book::Row;
+use escrow::Cover;
 use events::Event;
 use events::EventPair;
 use laws::checks::both;
@@ -27,16 +28,15 @@ use laws::checks::first_of;
 use laws::checks::unless;
 
 // 4 a field outside its values; 5 an invalid schedule; 6 no cash cap.
-pub fn header_refusal(p: Params, g: Given) -> u8
-    ensures { λ r. ⌜ r ≡ headerRefusal p g ⌝ }
+pub fn header_refusal(p: Params, g: Given, cover: Cover) -> u8
+    ensures { λ r. ⌜ r ≡ headerRefusal p g cover ⌝ }
 {
     let reserve = unless(!both(p.forced, 0 < g.reserve), refusals::BAD_FIELD);
     let policy = unless(g.policy <= 3, refusals::BAD_FIELD);
     let band = unless(g.band_bps <= disclosure::MAX_BAND, refusals::BAD_FIELD);
-    first_of(
-        reserve,
-        first_of(policy, first_of(band, schedule_refusal(p))),
-    )
+    let decimals = escrow::decimals_refusal(cover);
+    let fields = first_of(band, first_of(decimals, schedule_refusal(p)));
+    first_of(reserve, first_of(policy, fields))
 }
 
 fn schedule_refusal(p: Params) -> u8
@@ -83,15 +83,12 @@ fn end_refusal(p: Params) -> u8
     first_of(fits, first_of(below, first_of(reveals, cash)))
 }
 
-// 4 side; 6 escrow 0, revealed with limit or qty 0, unrevealed with either not 0; 7 seventeenth; 8 owner seen.
-pub fn order_refusal(s: Session, row: Row) -> u8
-    ensures { λ r. ⌜ r ≡ orderRefusal s row ⌝ }
+// What refuses the row by itself; 7 seventeenth; 8 owner seen.
+pub fn order_refusal(s: Session, cover: Cover, row: Row) -> u8
+    ensures { λ r. ⌜ r ≡ orderRefusal s cover row ⌝ }
 {
-    let side = unless(row.side <= 1, refusals::BAD_FIELD);
-    let escrow = unless(0 < row.escrowed, refusals::ZERO_FIGURE);
-    let figures = unless(shows_right(row), refusals::ZERO_FIGURE);
     let full = unless(s.order_count < Session::MAX_ORDERS, refusals::ORDERS_FULL);
-    let refusal = first_of(side, first_of(escrow, first_of(figures, full)));
+    let refusal = first_of(row_refusal(cover, row), full);
     if refusal != 0 {
         return refusal;
     }
@@ -101,6 +98,17 @@ pub fn order_refusal(s: Session, row: Row) -> u8
         !owner_seen(orders, s.order_count, owner),
         refusals::DUPLICATE_ORDER,
     )
+}
+
+// 4 side; 6 escrow 0, revealed with limit or qty 0, unrevealed with either not 0; 31 uncovered.
+pub fn row_refusal(cover: Cover, row: Row) -> u8
+    ensures { λ r. ⌜ r ≡ rowRefusal cover row ⌝ }
+{
+    let side = unless(row.side <= 1, refusals::BAD_FIELD);
+    let nothing = unless(0 < row.escrowed, refusals::ZERO_FIGURE);
+    let figures = unless(shows_right(row), refusals::ZERO_FIGURE);
+    let uncovered = escrow::cover_refusal(cover, row);
+    first_of(side, first_of(nothing, first_of(figures, uncovered)))
 }
 
 // Revealed with both figures, or unrevealed with none.
@@ -130,10 +138,10 @@ fn owner_seen(orders: [Order; Session::MAX_ORDERS], n: usize, owner: [u8; 32]) -
 }
 
 // What one order more changes, or the number that refuses it.
-pub(crate) fn order_change(s: Session, row: Row) -> Change
-    ensures { λ r. ⌜ r ≡ orderChange s row ⌝ }
+pub(crate) fn order_change(s: Session, cover: Cover, row: Row) -> Change
+    ensures { λ r. ⌜ r ≡ orderChange s cover row ⌝ }
 {
-    let refusal = order_refusal(s, row);
+    let refusal = order_refusal(s, cover, row);
     let mut c = s.unchanged(refusal);
     if refusal != 0 {
         return c;

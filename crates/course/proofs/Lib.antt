@@ -24,3 +24,4 @@ pub mod LinesOfCalls
 pub mod LinesOfSettles
 pub mod LinesOfPrints
 pub mod Lines
+pub mod Rows

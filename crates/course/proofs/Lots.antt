@@ -39,6 +39,9 @@ module _ (p : Params) (g : Given) (orders : List Order) (n : ℕ) where
   has-a-price o (too-large q h l e) r f = absurd (omega (arith, r, ap (λ (x : Outcome). x .refusal) e))
   has-a-price o (has-price h) r f = h
 
+  pub clear-has-price : computeClear p g orders n .refusal ≡ 0 → computeClear p g orders n .failed ≡ 0 → Priced p g orders n (computeClear p g orders n)
+  clear-has-price r f = has-a-price (computeClear p g orders n) (clear-is-right p g orders n .right (clearable f)) r f
+
   -- the lots of one side added up
   abbrev pub sideLots : (side : ℕ) → ℕ
   sideLots side = sumBelow (λ i. only (eqb (orderIn orders i .side) side) (getD (computeClear p g orders n .lots) i 0)) n
@@ -69,7 +72,7 @@ module _ (p : Params) (g : Given) (orders : List Order) (n : ℕ) where
 
     pub lots-add-up : computeClear p g orders n .refusal ≡ 0 → computeClear p g orders n .failed ≡ 0 → AddUp
     lots-add-up r f =
-        let P = has-a-price (computeClear p g orders n) (clear-is-right p g orders n .right (clearable f)) r f in
+        let P = clear-has-price r f in
         record {
           traded = omega (arith, P .best .executes .some, P .volume);
           bought = sym buys ∙ P .lots .sides true;

@@ -8,20 +8,20 @@ use native.Mathlib.Omega.{arith}
 use borrow.Author.Tests.{ltb-true, eqb-true, not-true}
 use lib.Dec.{eqb}
 use lib.ListN.{length, length-set, length-replicate}
-use lib.Seq.{getD-set-same, getD-set-other}
 use Rattle.laws.specs.Search.{some}
 use Rattle.laws.specs.Lists.{same}
 use Rattle.laws.proofs.Tests.{clash}
 use Rattle.laws.proofs.Search.{some-at}
 use Rattle.laws.proofs.Lists.{unseen, same-eq}
-use Rattle.laws.proofs.Checking.{check-zero, unless-zero}
+use Rattle.laws.proofs.Checking.{then-zero, check-zero, unless-zero}
 use Rattle.credit_math.specs.Limits.{maxOrders}
 use Rattle.book.specs.Limits.{maxFills}
-use Rattle.book.specs.Book.{noOrder, noWallet, listed, emptyOrder, emptyFill}
+use Rattle.book.specs.Book.{noOrder, noWallet, emptyOrder, emptyFill}
 use Rattle.book.specs.declared.Order.{Order}
 use Rattle.book.specs.declared.Row.{Row}
 use Rattle.book.specs.declared.Params.{Params}
 use Rattle.book.specs.declared.Given.{Given}
+use Rattle.escrow.specs.declared.Cover.{Cover}
 use Rattle.auction_engine.specs.declared.Session.{Session}
 use Rattle.auction_engine.specs.Session.{orderAt, fresh, atPhase, allocating, issuerRofr, settling}
 use Rattle.auction_engine.specs.Call.{Call, screen, clear, allocate, exercise, close, settle, skip, finish, expire, admits}
@@ -31,10 +31,11 @@ use Rattle.auction_engine.specs.Matching.{afterFills, done, phaseAfter, allocat
 use Rattle.auction_engine.specs.Rofr.{exerciseEffect, closeEffect}
 use Rattle.auction_engine.specs.Settlement.{settleEffect, skipEffect, finishEffect, expireEffect}
 use Rattle.auction_engine.specs.Engine.{refusal, effect}
-use Rattle.auction_engine.specs.Opening.{orderRefusal, withOrder, withRows, RowsAccepted, Opening, opened}
+use Rattle.auction_engine.specs.Opening.{rowRefusal, orderRefusal, withOrder, Opening, opened}
 use Rattle.course.specs.Course.{Run, begin, note, advance, run}
 use Rattle.course.specs.Demand3.{after}
 use Rattle.course.proofs.Fills.{after-fills-phase}
+use Rattle.course.proofs.Rows.{last-row, old-row, rows-keep}
 use Rattle.course.proofs.Accepted.{noted, Early, early-screen, at-allocate, exercised, settles, skips}
 
 -- nothing is filled, settled or skipped, and owners are distinct
@@ -58,12 +59,12 @@ fresh-unfilled p g =
       owners = λ i j l. absurd (omega (arith, l));
     }
 
-module _ (s : Session) (row : Row) (e : orderRefusal s row ≡ 0) (U : Unfilled s) where
+module _ (s : Session) (cover : Cover) (row : Row) (e : orderRefusal s cover row ≡ 0) (U : Unfilled s) where
   -- the checks 7 and 8
   checks : (s .«order_count» < maxOrders) × (some (λ i. same (orderAt s i .owner) (row .owner)) (s .«order_count») ≡ false)
   unfolding orderRefusal
   checks =
-      let a = check-zero _ _ _ (check-zero _ _ _ (check-zero _ _ _ (check-zero _ _ _ e .1) .1) .1) in
+      let a = check-zero _ _ _ (then-zero (rowRefusal cover row) _ e .1) in
       (ltb-true _ _ (a .0), not-true _ (unless-zero _ _ (a .1)))
 
   unseen-owner : (i : ℕ) → i < s .«order_count» → orderAt s i .owner ≡ row .owner → ⊥
@@ -72,12 +73,10 @@ module _ (s : Session) (row : Row) (e : orderRefusal s row ≡ 0) (U : Unfilled 
       (sym (some-at (λ i. same (orderAt s i .owner) (row .owner)) (s .«order_count») i l (same-eq (orderAt s i .owner) (row .owner) h))) (checks .1)
 
   last-owner : orderAt (withOrder s row) (s .«order_count») .owner ≡ row .owner
-  unfolding withOrder
-  last-owner = ap (λ (o : Order). o .owner) (getD-set-same (s .orders) (s .«order_count») (listed row) noOrder (omega (arith, checks .0, U .order-places)))
+  last-owner = ap (λ (r : Row). r .owner) (last-row s row (omega (arith, checks .0, U .order-places)))
 
   old-owner : (i : ℕ) → i < s .«order_count» → orderAt (withOrder s row) i .owner ≡ orderAt s i .owner
-  unfolding withOrder
-  old-owner i l = ap (λ (o : Order). o .owner) (getD-set-other (s .orders) (s .«order_count») i (listed row) noOrder (omega arith))
+  old-owner i l = ap (λ (r : Row). r .owner) (old-row s row i (omega arith))
 
   owners-more : (i j : ℕ) → i < s .«order_count» + 1 → j < s .«order_count» + 1 → orderAt (withOrder s row) i .owner ≡ orderAt (withOrder s row) j .owner → i ≡ j
   owners-more i j li lj h = go (ℕ-discrete i (s .«order_count»)) (ℕ-discrete j (s .«order_count»))
@@ -103,12 +102,9 @@ module _ (s : Session) (row : Row) (e : orderRefusal s row ≡ 0) (U : Unfilled 
         owners = owners-more;
       }
 
-rows-unfilled : (s : Session) (rows : List Row) → RowsAccepted s rows → Unfilled s → Unfilled (withRows s rows)
-rows-unfilled s [] a U = U
-rows-unfilled s (row ∷ rows) a U = rows-unfilled (withOrder s row) rows (a .1) (order-unfilled s row (a .0) U)
-
 pub opened-unfilled : (o : Opening) → Unfilled (opened o)
-opened-unfilled o = rows-unfilled (fresh (o .params) (o .given)) (o .rows) (o .rows-accepted) (fresh-unfilled (o .params) (o .given))
+opened-unfilled o =
+    rows-keep Unfilled (o .cover) (λ s. order-unfilled s (o .cover)) (fresh (o .params) (o .given)) (o .rows) (o .rows-accepted) (fresh-unfilled (o .params) (o .given))
 
 -- so it is while screen and clear are admitted
 abbrev BeforeClear : Session → Type 0

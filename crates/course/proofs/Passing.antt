@@ -1,42 +1,42 @@
 -- Every session that an opening and calls come to passes the checks 9 and 4 of any call. Assumes nothing.
 use mathlib.Core.Path.{_≡_, refl, sym, ap, _∙_, subst}
-use mathlib.Core.Logic.{_≢_, ⊎-elim}
+use mathlib.Core.Logic.{⊎-elim}
 use mathlib.Core.Bool.{Bool, true, false, cond}
 use mathlib.Core.List.{List, [], _∷_}
 use Prim.Native.Nat.{ℕ, zero, suc, _+_, _≤_, _<_}
-use native.Mathlib.Decide.{ℕ-discrete}
 use native.Mathlib.Omega.{arith}
-use borrow.Author.Tests.{ltb-true, leb-true, leb-false, le-leb, eqb-true}
+use borrow.Author.Tests.{leb-true, leb-false, le-leb, eqb-true}
 use lib.Dec.{leb, eqb}
-use lib.ListN.{length, set, length-set, length-replicate}
-use lib.Seq.{getD-set-same, getD-set-other}
+use lib.ListN.{length, length-set, length-replicate}
 use Rattle.laws.specs.Search.{every}
 use Rattle.laws.specs.Lists.{same}
 use Rattle.laws.proofs.Tests.{tested, clash}
 use Rattle.laws.proofs.Search.{every-all}
-use Rattle.laws.proofs.Lists.{unseen}
-use Rattle.laws.proofs.Checking.{check-zero, check-pass, unless-pass}
+use Rattle.laws.proofs.Checking.{then-zero, check-zero, check-pass, unless-pass}
 use Rattle.credit_math.specs.Limits.{maxOrders}
 use Rattle.book.specs.Limits.{maxFills}
-use Rattle.book.specs.Book.{noOrder, noWallet, orderIn, listed, emptyOrder}
-use Rattle.book.specs.declared.Order.{Order}
+use Rattle.book.specs.Book.{noWallet, emptyOrder}
 use Rattle.book.specs.declared.Params.{Params}
 use Rattle.book.specs.declared.Given.{Given}
 use Rattle.book.specs.declared.Row.{Row}
+use Rattle.escrow.specs.Cover.{decimalsRefusal}
+use Rattle.escrow.specs.declared.Cover.{Cover}
 use Rattle.auction_engine.specs.declared.Session.{Session}
 use Rattle.auction_engine.specs.Session.{orderAt, fresh, atPhase, issuerRofr, settling}
 use Rattle.auction_engine.specs.Call.{Call, screen, clear, allocate, exercise, close, settle, skip, finish, expire, limitsRefusal, fieldsRefusal}
 use Rattle.auction_engine.specs.Screening.{screenEffect}
-use Rattle.auction_engine.specs.Clearing.{outcome, withLots, clearedBy}
-use Rattle.auction_engine.specs.Matching.{lessLeft, due, pair, one, afterFills, overfull, done, phaseAfter, matched, allocateEffect}
+use Rattle.auction_engine.specs.Clearing.{outcome, clearedBy}
+use Rattle.auction_engine.specs.Matching.{due, one, afterFills, overfull, done, phaseAfter, matched, allocateEffect}
 use Rattle.auction_engine.specs.Rofr.{exerciseEffect, closeEffect}
 use Rattle.auction_engine.specs.Settlement.{settleEffect, skipEffect, finishEffect, expireEffect}
 use Rattle.auction_engine.specs.Engine.{refusal, effect, answer}
-use Rattle.auction_engine.specs.Opening.{headerRefusal, orderRefusal, withOrder, withRows, RowsAccepted, Opening, opened}
+use Rattle.auction_engine.specs.Opening.{headerRefusal, rowRefusal, orderRefusal, withOrder, Opening, opened}
+use Rattle.auction_engine.proofs.Orders.{order-room}
 use Rattle.auction_engine.proofs.Fills.{due-count, due-full, free-full, idle-after-fills, after-fills-orders}
 use Rattle.course.specs.Applied.{sessionAfter}
 use Rattle.course.specs.Demand3.{after}
-use Rattle.course.proofs.Fills.{after-fills-frame, after-fills-phase, after-fills-params, after-fills-given}
+use Rattle.course.proofs.Fills.{after-fills-phase, after-fills-params, after-fills-given}
+use Rattle.course.proofs.Rows.{all-more, rows-keep, lots-rows, after-fills-rows, effect-rows}
 use Rattle.course.proofs.Accepted.{at-allocate, not-full, exercised, settles, skips}
 use Rattle.course.proofs.Checked.{few-fills, known-sides, limits-kept, fields-kept}
 use Rattle.course.proofs.Applied.{run-is-answers}
@@ -52,13 +52,13 @@ record Opens (s : Session) : Type 0 where
   places : length (s .orders) ≡ maxOrders
 
 -- an accepted header
-header-opens : (p : Params) (g : Given) → headerRefusal p g ≡ 0 → Opens (fresh p g)
+header-opens : (p : Params) (g : Given) (cover : Cover) → headerRefusal p g cover ≡ 0 → Opens (fresh p g)
 unfolding headerRefusal limitsRefusal fieldsRefusal fresh every
-header-opens p g e =
+header-opens p g cover e =
     let forced = check-zero _ 3 _ e in
     let policy = check-zero _ 3 _ (forced .1) in
     let band = check-zero _ 3 _ (policy .1) in
-    let fits = check-zero _ 4 _ (check-zero _ 4 _ (check-zero _ 4 _ (check-zero _ 4 _ (band .1) .1) .1) .1) in
+    let fits = check-zero _ 4 _ (check-zero _ 4 _ (check-zero _ 4 _ (check-zero _ 4 _ (then-zero (decimalsRefusal cover) _ (band .1) .1) .1) .1) .1) in
     record {
       passes = record {
         limits = check-pass _ 9 _ refl (check-pass _ 9 _ refl (check-pass _ 9 _ (band .0) (check-pass _ 9 _ (forced .0) (unless-pass _ 9 (fits .0)))));
@@ -68,29 +68,16 @@ header-opens p g e =
     }
 
 -- an accepted order: its side is in range, and there was a place for it
-module _ (s : Session) (row : Row) (e : orderRefusal s row ≡ 0) (o : Opens s) where
+module _ (s : Session) (cover : Cover) (row : Row) (e : orderRefusal s cover row ≡ 0) (o : Opens s) where
   row-side : row .side ≤ 1
-  unfolding orderRefusal
-  row-side = leb-true (row .side) 1 (check-zero _ 3 _ e .0)
+  unfolding orderRefusal rowRefusal
+  row-side = leb-true (row .side) 1 (check-zero _ 3 _ (then-zero (rowRefusal cover row) _ e .0) .0)
 
   room : s .«order_count» < maxOrders
-  unfolding orderRefusal
-  room = ltb-true (s .«order_count») maxOrders (check-zero _ 6 _ (check-zero _ 5 _ (check-zero _ 5 _ (check-zero _ 3 _ e .1) .1) .1) .0)
-
-  last-side : orderAt (withOrder s row) (s .«order_count») .side ≡ row .side
-  unfolding withOrder
-  last-side = ap (λ (x : Order). x .side) (getD-set-same (s .orders) (s .«order_count») (listed row) noOrder (omega (arith, room, o .places)))
-
-  old-side : (i : ℕ) → i ≢ s .«order_count» → orderAt (withOrder s row) i .side ≡ orderAt s i .side
-  unfolding withOrder
-  old-side i d = ap (λ (x : Order). x .side) (getD-set-other (s .orders) (s .«order_count») i (listed row) noOrder d)
+  room = order-room s cover row e
 
   sides-more : (i : ℕ) → i < s .«order_count» + 1 → orderAt (withOrder s row) i .side ≤ 1
-  sides-more i l = go (ℕ-discrete i (s .«order_count»))
-    where
-      go : Dec (i ≡ s .«order_count») → orderAt (withOrder s row) i .side ≤ 1
-      go (yes q) = omega (arith, row-side, last-side, ap (λ (j : ℕ). orderAt (withOrder s row) j .side) q)
-      go (no q) = omega (arith, old-side i q, known-sides s (o .passes .fields) i (omega arith))
+  sides-more = all-more s row (λ (r : Row). r .side ≤ 1) (omega (arith, room, o .places)) row-side (known-sides s (o .passes .fields))
 
   order-opens : Opens (withOrder s row)
   unfolding limitsRefusal fieldsRefusal withOrder
@@ -109,27 +96,12 @@ module _ (s : Session) (row : Row) (e : orderRefusal s row ≡ 0) (o : Opens s) 
         places = rw length-set (o .places);
       }
 
-rows-open : (s : Session) (rows : List Row) → RowsAccepted s rows → Opens s → Opens (withRows s rows)
-rows-open s [] a o = o
-rows-open s (row ∷ rows) a o = rows-open (withOrder s row) rows (a .1) (order-opens s row (a .0) o)
-
 opened-passes : (o : Opening) → Passes (opened o)
-opened-passes o = rows-open (fresh (o .params) (o .given)) (o .rows) (o .rows-accepted) (header-opens (o .params) (o .given) (o .header-accepted)) .passes
+opened-passes o =
+    rows-keep Opens (o .cover) (λ s. order-opens s (o .cover)) (fresh (o .params) (o .given)) (o .rows) (o .rows-accepted)
+    (header-opens (o .params) (o .given) (o .cover) (o .header-accepted)) .passes
 
--- ---- what calls leave: the sides of orders, and the number of fills
-lots-side : (orders : List Order) (lots : List ℕ) (n i : ℕ) → orderIn (withLots orders lots n) i .side ≡ orderIn orders i .side
-unfolding withLots
-lots-side orders lots zero i = refl
-lots-side orders lots (suc n) i =
-    unseen (λ (o : Order). o .side) (withLots orders lots n) n _ noOrder (sym (lots-side orders lots n n)) i ∙ lots-side orders lots n i
-
-pair-side : (t : Session) (b a q i : ℕ) → orderAt (pair t b a q) i .side ≡ orderAt t i .side
-unfolding pair
-pair-side t b a q i =
-    let half : List Order = set (t .orders) b (lessLeft (orderAt t b) q) in
-    let kept : (j : ℕ) → orderIn half j .side ≡ orderAt t j .side = unseen (λ (o : Order). o .side) (t .orders) b (lessLeft (orderAt t b) q) noOrder refl in
-    unseen (λ (o : Order). o .side) half a (lessLeft (orderAt t a) q) noOrder (sym (kept a)) i ∙ kept i
-
+-- ---- what calls leave: the number of fills, and a phase
 after-fills-few : (n : ℕ) (s : Session) → s .«fill_count» ≤ maxFills → overfull n s ≡ false → afterFills n s .«fill_count» ≤ maxFills
 unfolding afterFills
 after-fills-few zero s h e = h
@@ -152,6 +124,10 @@ after-known s = go (same (s .params .«rofr_authority») noWallet)
     go false = omega arith
 
 -- ---- a call
+-- orders of one row are on one side
+same-side : {r x : Row} → r ≡ x → r .side ≡ x .side
+same-side e = ap (λ (q : Row). q .side) e
+
 -- t has what the checks read of s, but for fills and phase
 still-passes : (s t : Session) → Passes s → t .«order_count» ≡ s .«order_count» → t .given ≡ s .given → t .params ≡ s .params
     → t .«fill_count» ≤ maxFills → t .phase ≤ 7 → ((i : ℕ) → orderAt t i .side ≡ orderAt s i .side) → Passes t
@@ -164,7 +140,7 @@ either false s t P Q = Q
 after-fills-passes : (n : ℕ) (s : Session) → Passes s → s .phase ≤ 7 → overfull n s ≡ false → Passes (afterFills n s)
 after-fills-passes n s P h e =
     still-passes s (afterFills n s) P (after-fills-orders n s) (after-fills-given n s) (after-fills-params n s) (after-fills-few n s (few-fills s (P .limits)) e) (omega (arith, after-fills-phase n s))
-    (λ i. after-fills-frame (λ t. orderAt t i .side) (λ t b a q. pair-side t b a q i) n s)
+    (λ i. same-side (after-fills-rows n s .rows i))
 
 matched-passes : (t : Session) → Passes t → Passes (matched t)
 matched-passes t P = either (done t) (atPhase t (phaseAfter t)) t (still-passes t _ P refl refl refl (few-fills t (P .limits)) (after-known t) (λ i. refl)) P
@@ -172,10 +148,10 @@ matched-passes t P = either (done t) (atPhase t (phaseAfter t)) t (still-passes 
 effect-passes : (s : Session) (c : Call) → Passes s → refusal s c ≡ 0 → Passes (effect s c)
 unfolding effect screenEffect clearedBy allocateEffect exerciseEffect closeEffect settleEffect skipEffect finishEffect expireEffect
 effect-passes s (screen now i side verdict hasId id) P e =
-    still-passes s _ P refl refl refl (few-fills s (P .limits)) (omega arith) (λ j. unseen (λ (o : Order). o .side) (s .orders) i _ noOrder refl j)
+    still-passes s _ P refl refl refl (few-fills s (P .limits)) (omega arith) (λ j. same-side (effect-rows s (screen now i side verdict hasId id) .rows j))
 effect-passes s (clear now) P e =
     either (eqb (outcome s .failed) 0) _ _
-    (still-passes s _ P refl refl refl (few-fills s (P .limits)) (omega arith) (lots-side (s .orders) (outcome s .lots) (s .«order_count»)))
+    (still-passes s _ P refl refl refl (few-fills s (P .limits)) (omega arith) (λ j. same-side (lots-rows (s .orders) (outcome s .lots) (s .«order_count») j)))
     (still-passes s _ P refl refl refl (few-fills s (P .limits)) (omega arith) (λ j. refl))
 effect-passes s (allocate now n) P e = matched-passes (afterFills n s) (after-fills-passes n s P (omega (arith, at-allocate s now n e)) (not-full s now n e))
 effect-passes s (exercise now issuer i q) P e =

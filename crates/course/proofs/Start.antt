@@ -30,11 +30,11 @@ use Rattle.course.proofs.Lotted.{lots-places, lots-at}
 use Rattle.course.proofs.Lots.{AddUp, sideLots, lots-add-up}
 use Rattle.course.proofs.Checked.{few-orders, known-sides, limits-kept, fields-kept}
 
--- the `clear` line says that the clear did not fail, and its volume
+-- the `clear` line says that the clear did not fail, its price and its volume
 line-says : (x : Bool) (p v r m w p′ v′ r′ m′ : ℕ) (ks ms others : List Event)
-    → cond x (Cleared p v r m ∷ ks) (SessionFailed w ∷ ms) ≡ Cleared p′ v′ r′ m′ ∷ others → (x ≡ true) × (v ≡ v′)
-line-says true p v r m w p′ v′ r′ m′ ks ms others e = (refl, cc)
-line-says false p v r m w p′ v′ r′ m′ ks ms others e = (cc, cc)
+    → cond x (Cleared p v r m ∷ ks) (SessionFailed w ∷ ms) ≡ Cleared p′ v′ r′ m′ ∷ others → (x ≡ true) × (p ≡ p′) × (v ≡ v′)
+line-says true p v r m w p′ v′ r′ m′ ks ms others e = (refl, cc, cc)
+line-says false p v r m w p′ v′ r′ m′ ks ms others e = (cc, cc, cc)
 
 -- what a clear with a price hands back
 abbrev priced : Session → Session
@@ -84,12 +84,12 @@ pub record Starts {s : Session} (j : JustCleared s) : Type 0 where
   pub volume : s .cleared .«cleared_volume» ≡ j .volume
   pub lot : (i : ℕ) → i < s .«order_count» → orderAt s i .alloc ≡ lotOf j i
 
-events-say : (s : Session) (now : ℤ) (price volume reserve reference : ℕ) (others : List Event)
-    → events s (clear now) ≡ Cleared price volume reserve reference ∷ others → (outcome s .failed ≡ 0) × (outcome s .volume ≡ volume)
+pub events-say : (s : Session) (now : ℤ) (price volume reserve reference : ℕ) (others : List Event)
+    → events s (clear now) ≡ Cleared price volume reserve reference ∷ others → (outcome s .failed ≡ 0) × (outcome s .price ≡ price) × (outcome s .volume ≡ volume)
 unfolding events clearLines
 events-say s now price volume reserve reference others e =
     let h = line-says (eqb (outcome s .failed) 0) (outcome s .price) (outcome s .volume) _ _ (outcome s .failed) price volume reserve reference _ _ others e in
-    (eqb-true _ _ (h .0), h .1)
+    (eqb-true _ _ (h .0), h .1, h .2)
 
 effect-priced : (s : Session) (now : ℤ) → outcome s .failed ≡ 0 → effect s (clear now) ≡ priced s
 unfolding effect
@@ -106,7 +106,7 @@ starts s j =
     let L = lots-add-up (u .params) (u .given) (u .orders) (u .«order_count») (few-orders u limits) (known-sides u fields) (outcome-passes u (j .now) (j .accepted)) (says .0) in
     record {
       allotted = subst Allotted (sym is) (allotted u U limits fields L);
-      volume = ap (λ (t : Session). t .cleared .«cleared_volume») is ∙ says .1;
+      volume = ap (λ (t : Session). t .cleared .«cleared_volume») is ∙ says .2;
       lot = λ i l. ap (λ t. orderAt t i .alloc) is
           ∙ ap (λ (o : Order). o .alloc) (order-at u U limits fields i (omega (arith, ap (λ (t : Session). t .«order_count») is)));
     }

@@ -9,6 +9,7 @@ use Rattle.book.specs.Book.{noWallet}
 use Rattle.book.specs.declared.Params.{Params}
 use Rattle.book.specs.declared.Given.{Given}
 use Rattle.book.specs.declared.Row.{Row}
+use Rattle.escrow.specs.declared.Cover.the-variants.{Unasked}
 use Rattle.events.specs.declared.Event.{Event}
 use Rattle.events.specs.declared.Event.the-variants as event
 use Rattle.auction_engine.specs.declared.Session.{Session}
@@ -85,6 +86,6 @@ lines =
 
 -- the header and the orders are accepted, and so is each call, with its lines
 pub record CaseL : Type 0 where
-  pub header-accepted : headerRefusal params given ≡ 0
-  pub rows-accepted : RowsAccepted (fresh params given) rows
+  pub header-accepted : headerRefusal params given Unasked ≡ 0
+  pub rows-accepted : RowsAccepted (fresh params given) Unasked rows
   pub course : Accepts (withRows (fresh params given) rows) calls lines

@@ -14,19 +14,25 @@ use Rattle.laws.proofs.Tests.{both}
 use Rattle.book.specs.declared.Row.{Row}
 use Rattle.events.specs.declared.Event.{Event}
 use Rattle.events.specs.declared.Event.the-variants.{Cleared, Refused}
+use Rattle.escrow.specs.declared.Cover.{Cover}
+use Rattle.escrow.specs.declared.Cover.the-variants.{Unasked, Decimals}
 use Rattle.auction_engine.specs.declared.Session.{Session}
 use Rattle.auction_engine.specs.Session.{fresh}
 use Rattle.auction_engine.specs.Call.{Call, clear}
 use Rattle.auction_engine.specs.Engine.{refusal, effect, events, answer}
 use Rattle.auction_engine.specs.Opening.{Opening, opened, withOrder, withRows, RowsAccepted, orderRefusal}
+use Rattle.auction_engine.proofs.Orders.{accepted-covered}
 use Rattle.course.specs.Demand3.{JustCleared}
 use Rattle.course.specs.Applied.{sessionAfter}
 use Rattle.course.proofs.Applied.{run-is-answers}
 use Rattle.session_file.specs.Marks.{inPlace, noKind, headerKind, orderKind, callKind}
-use Rattle.session_file.specs.Fields.{Read, refused, header, order, call}
-use Rattle.session_file.specs.Reads.{shapeAt, readingRefusal, readNext, readsFrom, reads}
+use Rattle.session_file.specs.declared.records.Mark.the-variants.{SI}
+use Rattle.session_file.specs.Fields.{Read, refused, header, order, call, fieldsOf}
+use Rattle.session_file.specs.Reads.{markAt, shapeAt, recordAt, readingRefusal, readNext, readsFrom, reads}
+use Rattle.session_file.specs.Calls.{fieldsIn}
 use Rattle.session_file.specs.File.{State, start, fileRefusal, made, saidBy, saidOf}
-use Rattle.session_file.specs.Claims.{beforeEnd, madeAll, headersIn, rowsIn, callsIn, IsCourse, FileIsCourse, ClearedInFile}
+use Rattle.session_file.specs.Claims.{beforeEnd, madeAll, headersIn, rowsIn, callsIn, askedBy, IsCourse, FileIsCourse, ClearedInFile, HeaderAsks, OnlySIAsks, CoveredInFile}
+use Rattle.session_file.proofs.Headers.{unasked-read}
 use Rattle.session_file.proofs.Reading.{kindRead, passed, read-whole, read-kind}
 
 -- ---- records in the order of their kinds, and records that let the file go on
@@ -116,36 +122,39 @@ never-refused before h = omega (arith, not-before before noKind (λ q. omega ari
 record OnlyCalls (l : List Read) (f : State) : Type 0 where
   no-header : headersIn l ≡ []
   no-row : rowsIn l ≡ []
+  cover-is : madeAll f l .cover ≡ f .cover
   session-is : madeAll f l .session ≡ sessionAfter (f .session) (callsIn l)
 
 only-calls : (f : State) (l : List Read) → InOrder callKind l → OnlyCalls l f
 unfolding made
-only-calls f [] v = record { no-header = refl; no-row = refl; session-is = refl }
+only-calls f [] v = record { no-header = refl; no-row = refl; cover-is = refl; session-is = refl }
 only-calls f (refused n ∷ l) v = absurd (never-refused callKind (v .0))
-only-calls f (header p g ∷ l) v = absurd (omega (arith, header-first callKind (v .0)))
+only-calls f (header p g cover ∷ l) v = absurd (omega (arith, header-first callKind (v .0)))
 only-calls f (order row ∷ l) v = absurd (omega (arith, not-before callKind orderKind (λ q. omega arith) (v .0)))
 only-calls f (call c ∷ l) v =
     let r = only-calls (made f (call c)) l (v .1) in
-    record { no-header = r .no-header; no-row = r .no-row; session-is = r .session-is }
+    record { no-header = r .no-header; no-row = r .no-row; cover-is = r .cover-is; session-is = r .session-is }
 
 -- ---- orders, then calls
 rows-more : (s : Session) (rows : List Row) (row : Row) → withRows s (rows ++ (row ∷ [])) ≡ withOrder (withRows s rows) row
 rows-more s [] row = refl
 rows-more s (x ∷ rows) row = rows-more (withOrder s x) rows row
 
-accepted-more : (s : Session) (rows : List Row) (row : Row) → RowsAccepted s rows → orderRefusal (withRows s rows) row ≡ 0 → RowsAccepted s (rows ++ (row ∷ []))
-accepted-more s [] row a z = (z, tt)
-accepted-more s (x ∷ rows) row a z = (a .0, accepted-more (withOrder s x) rows row (a .1) z)
+accepted-more : (s : Session) (cover : Cover) (rows : List Row) (row : Row) → RowsAccepted s cover rows → orderRefusal (withRows s rows) cover row ≡ 0
+    → RowsAccepted s cover (rows ++ (row ∷ []))
+accepted-more s cover [] row a z = (z, tt)
+accepted-more s cover (x ∷ rows) row a z = (a .0, accepted-more (withOrder s x) cover rows row (a .1) z)
 
 -- an opening with one order more
-abbrev more : (o : Opening) (row : Row) → orderRefusal (opened o) row ≡ 0 → Opening
+abbrev more : (o : Opening) (row : Row) → orderRefusal (opened o) (o .cover) row ≡ 0 → Opening
 more o row z =
     record {
       params = o .params;
       given = o .given;
+      cover = o .cover;
       rows = o .rows ++ (row ∷ []);
       header-accepted = o .header-accepted;
-      rows-accepted = accepted-more (fresh (o .params) (o .given)) (o .rows) row (o .rows-accepted) z;
+      rows-accepted = accepted-more (fresh (o .params) (o .given)) (o .cover) (o .rows) row (o .rows-accepted) z;
     }
 
 -- what follows an opening whose header and rows stand before
@@ -153,35 +162,41 @@ record Follows (o : Opening) (l : List Read) (f : State) : Type 0 where
   opening : Opening
   params-are : opening .params ≡ o .params
   given-are : opening .given ≡ o .given
+  asks : opening .cover ≡ o .cover
   rows-are : opening .rows ≡ o .rows ++ rowsIn l
   no-header : headersIn l ≡ []
+  cover-is : madeAll f l .cover ≡ opening .cover
   session-is : madeAll f l .session ≡ sessionAfter (opened opening) (callsIn l)
 
-follows : (before : ℕ) (o : Opening) (f : State) (l : List Read) → f .session ≡ opened o → 0 < before → InOrder before l → Accepted f l → Follows o l f
+follows : (before : ℕ) (o : Opening) (f : State) (l : List Read) → f .cover ≡ o .cover → f .session ≡ opened o → 0 < before → InOrder before l → Accepted f l → Follows o l f
 unfolding made fileRefusal
-follows before o f [] e h v a =
-    record { opening = o; params-are = refl; given-are = refl; rows-are = sym (append-nil (o .rows)); no-header = refl; session-is = e }
-follows before o f (refused n ∷ l) e h v a = absurd (never-refused before (v .0))
-follows before o f (header p g ∷ l) e h v a = absurd (omega (arith, header-first before (v .0)))
-follows before o f (order row ∷ l) e h v a =
-    let z : orderRefusal (opened o) row ≡ 0 = subst (λ (s : Session). orderRefusal s row ≡ 0) e (a .0) in
+follows before o f [] q e h v a =
+    record { opening = o; params-are = refl; given-are = refl; asks = refl; cover-is = q; rows-are = sym (append-nil (o .rows)); no-header = refl; session-is = e }
+follows before o f (refused n ∷ l) q e h v a = absurd (never-refused before (v .0))
+follows before o f (header p g cover ∷ l) q e h v a = absurd (omega (arith, header-first before (v .0)))
+follows before o f (order row ∷ l) q e h v a =
+    let z : orderRefusal (opened o) (o .cover) row ≡ 0 = subst (λ (s : Session). orderRefusal s (o .cover) row ≡ 0) e (subst (λ (c : Cover). orderRefusal (f .session) c row ≡ 0) q (a .0)) in
     let e′ : withOrder (f .session) row ≡ opened (more o row z) =
     ap (λ (s : Session). withOrder s row) e ∙ sym (rows-more (fresh (o .params) (o .given)) (o .rows) row) in
-    let r = follows orderKind (more o row z) (made f (order row)) l e′ (omega arith) (v .1) (a .1) in
+    let r = follows orderKind (more o row z) (made f (order row)) l q e′ (omega arith) (v .1) (a .1) in
     record {
       opening = r .opening;
       params-are = r .params-are;
       given-are = r .given-are;
+      asks = r .asks;
+      cover-is = r .cover-is;
       rows-are = r .rows-are ∙ append-assoc (o .rows) (row ∷ []) (rowsIn l);
       no-header = r .no-header;
       session-is = r .session-is;
     }
-follows before o f (call c ∷ l) e h v a =
+follows before o f (call c ∷ l) q e h v a =
     let r = only-calls (made f (call c)) l (v .1) in
     record {
       opening = o;
       params-are = refl;
       given-are = refl;
+      asks = refl;
+      cover-is = r .cover-is ∙ q;
       rows-are = sym (append-nil (o .rows)) ∙ ap (λ (x : List Row). o .rows ++ x) (sym (r .no-row));
       no-header = r .no-header;
       session-is = r .session-is ∙ ap (λ (s : Session). sessionAfter (answer s c .session) (callsIn l)) e;
@@ -192,13 +207,14 @@ course-from : (l : List Read) → InOrder noKind l → Accepted start l → (l �
 unfolding made fileRefusal
 course-from [] v a = inl refl
 course-from (refused n ∷ l) v a = absurd (never-refused noKind (v .0))
-course-from (header p g ∷ l) v a =
-    let o : Opening = record { params = p; given = g; rows = []; header-accepted = a .0; rows-accepted = tt } in
-    let r = follows headerKind o (made start (header p g)) l refl (omega arith) (v .1) (a .1) in
+course-from (header p g cover ∷ l) v a =
+    let o : Opening = record { params = p; given = g; cover = cover; rows = []; header-accepted = a .0; rows-accepted = tt } in
+    let r = follows headerKind o (made start (header p g cover)) l refl refl (omega arith) (v .1) (a .1) in
     inr (record {
       opening = r .opening;
-      header-is = λ i. record { params = sym (r .params-are) i; given = sym (r .given-are) i } ∷ r .no-header i;
+      header-is = λ i. record { params = sym (r .params-are) i; given = sym (r .given-are) i; cover = sym (r .asks) i } ∷ r .no-header i;
       rows-are = sym (r .rows-are);
+      cover-is = r .cover-is;
       session-is = r .session-is ∙ sym (run-is-answers (opened (r .opening)) (callsIn l));
     })
 course-from (order row ∷ l) v a = absurd (omega (arith, only-header orderKind (v .0)))
@@ -273,3 +289,56 @@ cleared-in-file s l k now price volume reserve reference others e q =
       just-cleared = cleared-from l f (before-call s l k (clear now) e) now price volume reserve reference others (sym (said-on f x z) ∙ q);
       calls-after = λ m n h. only-calls (made f x) m (first-in-order callKind m n (subst (InOrder callKind) h v)) .session-is ∙ sym (run-is-answers (made f x .session) (callsIn m));
     }
+
+-- ---- cover
+pub header-asks : HeaderAsks
+header-asks s l k e =
+    ⊎-elim (λ (n : l ≡ []). ap (λ (m : List Read). madeAll start m .cover) n ∙ sym (ap (λ (m : List Read). askedBy (headersIn m)) n))
+    (λ (o : IsCourse l (madeAll start l)). o .cover-is ∙ sym (ap askedBy (o .header-is)))
+    (file-is-course s l k e)
+
+-- the first record of a file is what is read of its first bytes
+first-read : (n : ℕ) (s : List ℕ) (x : Read) (m : List Read) → beforeEnd start (readsFrom n noKind s) ≡ x ∷ m → readNext noKind s ≡ x
+unfolding readsFrom
+first-read zero s x m e = cc
+first-read (suc n) s x m e = go (ltb 0 (length s)) _ e
+  where
+    y : Read
+    y = readNext noKind s
+
+    kept : (t : Bool) (l : List Read) → cond t (y ∷ l) [] ≡ x ∷ m → y ≡ x
+    kept true l e = cc
+    kept false l e = cc
+
+    go : (t : Bool) (l : List Read) → beforeEnd start (cond t (y ∷ l) []) ≡ x ∷ m → y ≡ x
+    go true l e = kept (eqb (fileRefusal start y) 0) _ e
+    go false l e = cc
+
+-- a header stands first, and its cover is what is asked
+first-asks : (x : Read) (l : List Read) → inPlace noKind (kindRead x) ≡ true → askedBy (headersIn (x ∷ l)) ≡ fieldsIn x .cover
+first-asks (refused n) l v = absurd (never-refused noKind v)
+first-asks (header p g cover) l v = refl
+first-asks (order row) l v = absurd (omega (arith, only-header orderKind v))
+first-asks (call c) l v = absurd (omega (arith, only-header callKind v))
+
+next-unasked : (s : List ℕ) → markAt s ≢ SI → fieldsIn (readNext noKind s) .cover ≡ Unasked
+unfolding readNext
+next-unasked s d = go (eqb (readingRefusal noKind s) 0)
+  where
+    go : (t : Bool) → fieldsIn (cond t (fieldsOf (markAt s) (recordAt s)) (refused (readingRefusal noKind s))) .cover ≡ Unasked
+    go true = sym (unasked-read (recordAt s) (markAt s) d)
+    go false = refl
+
+pub only-si-asks : OnlySIAsks
+only-si-asks s [] k d e = refl
+only-si-asks s (x ∷ l) k d e =
+    header-asks s (x ∷ l) k e ∙ first-asks x l (file-in-order s (x ∷ l) k e .0)
+    ∙ sym (ap (λ (r : Read). fieldsIn r .cover) (first-read (length s) s x (l ++ k) e)) ∙ next-unasked s d
+
+pub covered-in-file : CoveredInFile
+unfolding fileRefusal
+covered-in-file s l k row decimals e asks =
+    let f : State = madeAll start l in
+    let z : orderRefusal (f .session) (f .cover) row ≡ 0 = next-accepted start l (order row) k (file-accepted s l (order row ∷ k) e) in
+    let c : f .cover ≡ Decimals decimals = header-asks s l (order row ∷ k) e ∙ asks in
+    accepted-covered (f .session) decimals row (subst (λ (a : Cover). orderRefusal (f .session) a row ≡ 0) c z)

@@ -1,5 +1,6 @@
 -- Laws of a session file.
 pub mod Marks
+pub mod Headers
 pub mod Reading
 pub mod Lines
 pub mod FewEvents

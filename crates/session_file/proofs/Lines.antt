@@ -16,7 +16,7 @@ use Rattle.session_file.specs.declared.file.Place.{Place}
 use Rattle.session_file.specs.Fields.{Read}
 use Rattle.session_file.specs.Reads.{shapeAt, readingRefusal, readNext, readsFrom}
 use Rattle.session_file.specs.File.{State, state, unopened, fileRefusal, made, saidOf, told, left, numbered, lastLine, maxInput, listing}
-use Rattle.session_file.specs.Parts.{afterRecord}
+use Rattle.session_file.specs.Parts.{stateAt, firstPlace, afterRecord}
 use Rattle.session_file.proofs.Reading.{passed, read-whole, read-kind, made-state}
 
 -- n is at least the number of bytes left
@@ -47,16 +47,16 @@ module _ (n number before : ℕ) (rest : List ℕ) (f : State) (h : 0 < length r
 
 -- the lines that are left at a place, with a session
 abbrev pub linesAt : (n number : ℕ) (s : List ℕ) → Place → Session → List ℕ
-linesAt n number s p x = linesFrom n number (p .stage) (drop (p .at) s) (state (p .stage) x)
+linesAt n number s p x = linesFrom n number (p .stage) (drop (p .at) s) (stateAt p x)
 
 -- at the start they are the listing
-pub lines-start : (s : List ℕ) → length s ≤ maxInput → linesAt (length s) 0 s (record { at = 0; stage = 0 }) unopened ≡ listing s
+pub lines-start : (s : List ℕ) → length s ≤ maxInput → linesAt (length s) 0 s firstPlace unopened ≡ listing s
 unfolding listing
 lines-start s h = rw (le-leb (length s) maxInput h)
 
 -- no record is left
-pub lines-end : (n number : ℕ) (s : List ℕ) (p : Place) (x : Session) → length s ≤ p .at → linesAt n number s p x ≡ lastLine (state (p .stage) x)
-lines-end n number s p x h = lines-none n number (p .stage) (drop (p .at) s) (state (p .stage) x) (rw length-drop (omega arith))
+pub lines-end : (n number : ℕ) (s : List ℕ) (p : Place) (x : Session) → length s ≤ p .at → linesAt n number s p x ≡ lastLine (stateAt p x)
+lines-end n number s p x h = lines-none n number (p .stage) (drop (p .at) s) (stateAt p x) (rw length-drop (omega arith))
 
 -- a record moves the place forward, and not past the end of the file
 pub record Onward (s : List ℕ) (before then : Place) : Type 0 where
@@ -68,7 +68,7 @@ module _ (s : List ℕ) (p : Place) (x : Session) (h : p .at < length s) where
   rest = drop (p .at) s
 
   abbrev f : State
-  f = state (p .stage) x
+  f = stateAt p x
 
   abbrev r : Read
   r = readNext (p .stage) rest
@@ -90,11 +90,11 @@ module _ (s : List ℕ) (p : Place) (x : Session) (h : p .at < length s) where
       (λ z. rw (ne-eqb (fileRefusal f r) 0 z) (record { on = h; within = omega arith }))
 
   -- the state after a record that goes on
-  after-is : fileRefusal f r ≡ 0 → made f r ≡ state (shapeAt rest .kind) (made f r .session)
+  after-is : fileRefusal f r ≡ 0 → made f r ≡ state (shapeAt rest .kind) (made f r .cover) (made f r .session)
   after-is z =
       let g = read-whole (p .stage) rest f z in
       let k = read-kind (p .stage) rest g in
-      made-state f r (rw k (passed (p .stage) rest g .known)) ∙ ap (λ (i : ℕ). state i (made f r .session)) k
+      made-state f r (rw k (passed (p .stage) rest g .known)) ∙ ap (λ (i : ℕ). state i (made f r .cover) (made f r .session)) k
 
   -- the lines of the next record, and those that are left after it
   pub lines-record : (n number : ℕ) → linesAt (suc n) number s p x
@@ -106,9 +106,9 @@ module _ (s : List ℕ) (p : Place) (x : Session) (h : p .at < length s) where
       lines-more n number (p .stage) rest f some z
       ∙ ap (λ (l : List ℕ). recordLines number (saidOf f r) ++ l)
       (ap (linesFrom n (number + 1) (shapeAt rest .kind) (drop (shapeAt rest .width) rest)) (after-is z)
-      ∙ ap (λ (l : List ℕ). linesFrom n (number + 1) (shapeAt rest .kind) l (state (shapeAt rest .kind) (made f r .session))) (drop-drop (shapeAt rest .width) (p .at) s)
+      ∙ ap (λ (l : List ℕ). linesFrom n (number + 1) (shapeAt rest .kind) l (state (shapeAt rest .kind) (made f r .cover) (made f r .session))) (drop-drop (shapeAt rest .width) (p .at) s)
       ∙ rw (eq-eqb (fileRefusal f r) 0 z)))
       (λ z.
       lines-stop n number (p .stage) rest f some z
       ∙ ap (λ (l : List ℕ). recordLines number (saidOf f r) ++ l)
-      (rw (ne-eqb (fileRefusal f r) 0 z) (sym (lines-end n (number + 1) s (record { at = length s; stage = p .stage }) x (omega arith)))))
+      (rw (ne-eqb (fileRefusal f r) 0 z) (sym (lines-end n (number + 1) s (record { at = length s; stage = p .stage; cover = p .cover }) x (omega arith)))))

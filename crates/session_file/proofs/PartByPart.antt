@@ -15,6 +15,8 @@ use Rattle.events.specs.declared.Event.the-variants.{Opened, Refused}
 use Rattle.events.proofs.Packed.{events-packed, pair-packed}
 use Rattle.listing.specs.Lines.{recordLines}
 use Rattle.bytes.specs.Writing.{written, after}
+use Rattle.escrow.specs.declared.Cover.{Cover}
+use Rattle.escrow.specs.declared.Cover.the-variants.{Unasked}
 use Rattle.auction_engine.specs.declared.Session.{Session}
 use Rattle.auction_engine.specs.declared.changes.Change.{Change}
 use Rattle.session_file.specs.declared.fields.Fields.{Fields}
@@ -25,18 +27,18 @@ use Rattle.session_file.specs.declared.parts.Next.{Next}
 use Rattle.session_file.specs.Marks.{noKind}
 use Rattle.session_file.specs.Fields.{Read}
 use Rattle.session_file.specs.File.{state, unopened, fileRefusal, made, saidOf, start, lastLine, maxInput, listing}
-use Rattle.session_file.specs.Parts.{cursorAt, begun, partAt, nextNumber, cursorAfter, PartPut, partsFrom, cursorFrom, PartsAreListing, afterRecord}
+use Rattle.session_file.specs.Parts.{stateAt, firstPlace, cursorAt, begun, partAt, nextNumber, cursorAfter, PartPut, partsFrom, cursorFrom, PartsAreListing, afterRecord}
 use Rattle.session_file.specs.PartSteps.{partsLeft, wholeRefused, RecordNext, NextOf, handledBy}
 use Rattle.session_file.proofs.Lines.{linesAt, lines-start, lines-end, lines-record, onward}
 use Rattle.session_file.proofs.Stepping.{Stepped}
 
 -- ---- a part as the code comes to it
 -- the session after a record and what is said of it, by the way in which it is run
-pub handled-is : (x : Session) (stage : ℕ) (r : Read) (f : Fields) (c : Change) (t : Step) → Stepped x stage r f c t
-    → (handledBy x t c f .session ≡ cond (eqb (fileRefusal (state stage x) r) 0) (made (state stage x) r .session) x)
-    × (eventsIn (handledBy x t c f .said) ≡ saidOf (state stage x) r)
+pub handled-is : (x : Session) (stage : ℕ) (cover : Cover) (r : Read) (f : Fields) (c : Change) (t : Step) → Stepped x stage cover r f c t
+    → (handledBy x t c f .session ≡ cond (eqb (fileRefusal (state stage cover x) r) 0) (made (state stage cover x) r .session) x)
+    × (eventsIn (handledBy x t c f .said) ≡ saidOf (state stage cover x) r)
 unfolding handledBy
-handled-is x stage r f c t d =
+handled-is x stage cover r f c t d =
     ⊎-elim
     (λ (z : eqb (t .refusal) 0 ≡ true).
     let n = eqb-true _ 0 z in
@@ -127,7 +129,7 @@ module _ (s : List ℕ) (p : Place) (x : Session) (number : ℕ) where
   unfolding cursorAfter
   record-after h = rw (lt-ltb (p .at) (length s) h)
 
-  last-part : length s ≤ p .at → partAt s at-place ≡ lastLine (state (p .stage) x)
+  last-part : length s ≤ p .at → partAt s at-place ≡ lastLine (stateAt p x)
   unfolding partAt
   last-part h = rw (le-ltb (p .at) (length s) h)
 
@@ -168,7 +170,7 @@ parts-at s short (suc n) k p x number c w m e = ⊎-elim (more k e (parts-at s s
 -- an input above the limit: 26, and the last line
 module _ (s : List ℕ) where
   abbrev refused-place : Place
-  refused-place = record { at = length s; stage = noKind }
+  refused-place = record { at = length s; stage = noKind; cover = Unasked }
 
   refused-part : partAt s (begun true) ≡ recordLines 0 (Refused 26 ∷ [])
   unfolding begun partAt
@@ -197,7 +199,7 @@ pub parts-are-listing : PartsAreListing
 unfolding begun
 parts-are-listing = record {
   whole = λ s h n m.
-      let r = parts-at s h n (length s) (record { at = 0; stage = noKind }) unopened 0 (omega arith) (omega arith) (omega arith) (omega arith) in
+      let r = parts-at s h n (length s) firstPlace unopened 0 (omega arith) (omega arith) (omega arith) (omega arith) in
       (r .0 ∙ lines-start s h, r .1);
   too-long = too-long-parts;
 }

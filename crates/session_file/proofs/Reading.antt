@@ -10,7 +10,7 @@ use lib.ListN.{length}
 use borrow.Author.Tests.{eqb-true, eq-eqb, ltb-true, leb-true}
 use Rattle.laws.proofs.Checking.{check-zero}
 use Rattle.session_file.specs.declared.records.Mark.{Mark}
-use Rattle.session_file.specs.declared.records.Mark.the-variants.{Unknown, SH, OR, SC, CL, AL, RX, RC, ST, SK, FN, EX}
+use Rattle.session_file.specs.declared.records.Mark.the-variants.{Unknown, SH, SI, OR, SC, CL, AL, RX, RC, ST, SK, FN, EX}
 use Rattle.session_file.specs.Marks.{shapeOf, inPlace, noKind, headerKind, orderKind, callKind}
 use Rattle.session_file.specs.Fields.{Read, refused, header, order, call, fieldsOf}
 use Rattle.session_file.specs.Reads.{markAt, shapeAt, recordAt, readingRefusal, readNext}
@@ -19,7 +19,7 @@ use Rattle.session_file.specs.File.{State, state, fileRefusal, made}
 -- the kind of what was read
 abbrev pub kindRead : Read → ℕ
 kindRead (refused number) = noKind
-kindRead (header p g) = headerKind
+kindRead (header p g cover) = headerKind
 kindRead (order row) = orderKind
 kindRead (call c) = callKind
 
@@ -28,6 +28,7 @@ pub fields-kind : (m : Mark) (rec : List ℕ) → kindRead (fieldsOf m rec) ≡ 
 unfolding fieldsOf shapeOf
 fields-kind Unknown rec = refl
 fields-kind SH rec = refl
+fields-kind SI rec = refl
 fields-kind OR rec = refl
 fields-kind SC rec = refl
 fields-kind CL rec = refl
@@ -44,6 +45,7 @@ width-some : (m : Mark) → 2 ≤ shapeOf m .width
 unfolding shapeOf
 width-some Unknown = omega arith
 width-some SH = omega arith
+width-some SI = omega arith
 width-some OR = omega arith
 width-some SC = omega arith
 width-some CL = omega arith
@@ -102,10 +104,10 @@ module _ (before : ℕ) (rest : List ℕ) where
   pub read-kind : readingRefusal before rest ≡ 0 → kindRead (readNext before rest) ≡ shapeAt rest .kind
   read-kind z = ap kindRead (read-good z) ∙ fields-kind (markAt rest) (recordAt rest)
 
--- what a file carries on after a record that was read: its kind, and the session
-pub made-state : (f : State) (x : Read) → 0 < kindRead x → made f x ≡ state (kindRead x) (made f x .session)
+-- what a file carries on after a record that was read: its kind, what is asked of escrows, and the session
+pub made-state : (f : State) (x : Read) → 0 < kindRead x → made f x ≡ state (kindRead x) (made f x .cover) (made f x .session)
 unfolding made
 made-state f (refused number) h = absurd (omega arith)
-made-state f (header p g) h = refl
+made-state f (header p g cover) h = refl
 made-state f (order row) h = refl
 made-state f (call c) h = refl

@@ -10,12 +10,16 @@ use lib.ListN.{length, drop}
 use borrow.Author.Tests.{eqb-true, eqb-false, eq-eqb}
 use Rattle.laws.specs.Lists.{Member}
 use Rattle.laws.proofs.Members.{has}
+use Rattle.laws.proofs.Checking.{then-in}
 use Rattle.laws.proofs.Tests.{tested}
 use Rattle.book.specs.declared.Params.{Params}
 use Rattle.book.specs.declared.Given.{Given}
 use Rattle.book.specs.declared.Row.{Row}
 use Rattle.events.specs.declared.Event.{Event}
 use Rattle.events.specs.declared.Event.the-variants.{OrderScreened, FillAllocated, PhaseChanged, Cleared, SessionFailed, FillSettled, Opened, Ordered, Refused}
+use Rattle.escrow.specs.Cover.{decimalsRefusal, coverRefusal}
+use Rattle.escrow.specs.declared.Cover.{Cover}
+use Rattle.escrow.specs.declared.Cover.the-variants.{Unasked, Decimals}
 use Rattle.auction_engine.specs.declared.Session.{Session}
 use Rattle.auction_engine.specs.Session.{fillAt, clearing}
 use Rattle.auction_engine.specs.Call.{Call, screen, clear, allocate, exercise, close, settle, skip, finish, expire, argumentsRefusal}
@@ -25,7 +29,7 @@ use Rattle.auction_engine.specs.Matching.{due, one, afterFills, done, fillEvent
 use Rattle.auction_engine.specs.Rofr.{exerciseEvents, closeEvents}
 use Rattle.auction_engine.specs.Settlement.{settleEvents, skipEvents, finishEvents, expireEvents}
 use Rattle.auction_engine.specs.Engine.{refusal, events}
-use Rattle.auction_engine.specs.Opening.{headerRefusal, orderRefusal}
+use Rattle.auction_engine.specs.Opening.{headerRefusal, rowRefusal, orderRefusal}
 use Rattle.course.specs.Refusals.{numbersOf}
 use Rattle.course.proofs.Refusals.{check, last, arguments-in, own-numbers}
 use Rattle.course.proofs.Passing.{Passes, checks-pass}
@@ -33,7 +37,7 @@ use Rattle.session_file.specs.Marks.{noKind}
 use Rattle.session_file.specs.Fields.{Read, refused, header, order, call}
 use Rattle.session_file.specs.Reads.{shapeAt, recordAt, flagsRefusal, readingRefusal, readNext, readsFrom, reads}
 use Rattle.session_file.specs.File.{State, start, fileRefusal, made, saidBy, saidOf}
-use Rattle.session_file.specs.Claims.{beforeEnd, madeAll, callsIn, IsCourse, placeNumbers, RefusedByPlace}
+use Rattle.session_file.specs.Claims.{beforeEnd, madeAll, callsIn, IsCourse, orderNumbers, placeNumbers, RefusedByPlace}
 use Rattle.session_file.proofs.Reading.{kindRead, passed, read-bad, read-kind}
 use Rattle.session_file.proofs.Course.{before-call}
 
@@ -62,33 +66,54 @@ reading-in before rest =
     (check eachRecord 1 _ _ refl
     (flags-in (recordAt rest) (shapeAt rest .flags)))))
 
--- `SH`
-header-in : (p : Params) (g : Given) → Member (headerRefusal p g) (0 ∷ placeNumbers (header p g))
+decimals-in : (l : List ℕ) → has l 4 ≡ true → (asked : Cover) → Member (decimalsRefusal asked) (0 ∷ l)
+unfolding decimalsRefusal
+decimals-in l h Unasked = inl refl
+decimals-in l h (Decimals decimals) = last l 4 _ h
+
+-- `SH`, `SI`
+header-in : (cover : Cover) (p : Params) (g : Given) (asked : Cover) → Member (headerRefusal p g asked) (0 ∷ placeNumbers cover (header p g asked))
 unfolding headerRefusal has
-header-in p g =
-    let l : List ℕ = placeNumbers (header p g) in
+header-in cover p g asked =
+    let l : List ℕ = placeNumbers cover (header p g asked) in
     check l 4 _ _ refl
     (check l 4 _ _ refl
     (check l 4 _ _ refl
+    (then-in l _ _ (decimals-in l refl asked)
     (check l 5 _ _ refl
     (check l 5 _ _ refl
     (check l 5 _ _ refl
     (check l 5 _ _ refl
     (check l 5 _ _ refl
     (check l 5 _ _ refl
-    (last l 6 _ refl)))))))))
+    (last l 6 _ refl))))))))))
 
--- `OR`
-order-in : (s : Session) (row : Row) → Member (orderRefusal s row) (0 ∷ placeNumbers (order row))
-unfolding orderRefusal has
-order-in s row =
-    let l : List ℕ = placeNumbers (order row) in
-    check l 4 _ _ refl (check l 6 _ _ refl (check l 6 _ _ refl (check l 7 _ _ refl (last l 8 _ refl))))
+-- `OR`: of the row by itself, and of its place
+row-in : (cover : Cover) (row : Row) → Member (rowRefusal cover row) (0 ∷ orderNumbers cover)
+unfolding rowRefusal coverRefusal has
+row-in Unasked row =
+    let l : List ℕ = orderNumbers Unasked in
+    check l 4 _ _ refl (check l 6 _ _ refl (check l 6 _ _ refl (inl refl)))
+row-in (Decimals decimals) row =
+    let l : List ℕ = orderNumbers (Decimals decimals) in
+    check l 4 _ _ refl (check l 6 _ _ refl (check l 6 _ _ refl (last l 31 _ refl)))
+
+has-place : (cover : Cover) → (has (orderNumbers cover) 7 ≡ true) × (has (orderNumbers cover) 8 ≡ true)
+unfolding has
+has-place Unasked = (refl, refl)
+has-place (Decimals decimals) = (refl, refl)
+
+order-in : (s : Session) (cover : Cover) (row : Row) → Member (orderRefusal s cover row) (0 ∷ orderNumbers cover)
+unfolding orderRefusal
+order-in s cover row =
+    let l : List ℕ = orderNumbers cover in
+    let h = has-place cover in
+    then-in l (rowRefusal cover row) _ (row-in cover row) (check l 7 _ _ (h .0) (last l 8 _ (h .1)))
 
 -- ---- a refusal of reading is of 'Each record'
 abbrev Known : Read → Type 0
-Known (refused n) = Member n (placeNumbers (refused n))
-Known (header p g) = Unit
+Known (refused n) = Member n eachRecord
+Known (header p g cover) = Unit
 Known (order row) = Unit
 Known (call c) = Unit
 
@@ -98,7 +123,7 @@ AllKnown (x ∷ l) = Known x × AllKnown l
 
 kind-known : (x : Read) → 0 < kindRead x → Known x
 kind-known (refused n) h = absurd (omega (arith, h))
-kind-known (header p g) h = tt
+kind-known (header p g cover) h = tt
 kind-known (order row) h = tt
 kind-known (call c) h = tt
 
@@ -199,22 +224,23 @@ call-numbers f c n P z = go (eqb (refusal (f .session) c) 0) refl
         (other-than-zero (refusal (f .session) c) (numbersOf c) (eqb-false (refusal (f .session) c) 0 e) (own-numbers (f .session) c (P .limits) (P .fields) z)) q
 
 -- a call that ends the file, by its own arguments
-call-in : (c : Call) → Member (argumentsRefusal c) (0 ∷ placeNumbers (call c))
-call-in c =
+call-in : (cover : Cover) (c : Call) → Member (argumentsRefusal c) (0 ∷ placeNumbers cover (call c))
+call-in cover c =
     ⊎-elim (λ (t : eqb (argumentsRefusal c) 0 ≡ true). inl (eqb-true (argumentsRefusal c) 0 t))
     (λ (t : eqb (argumentsRefusal c) 0 ≡ false). rw t (arguments-in (4 ∷ []) c (inl refl)))
     (tested (eqb (argumentsRefusal c) 0))
 
 -- ---- any record
 -- the file's refusal has a number of the place, and so has what is said where there is none
-said-in : (f : State) (x : Read) (n : ℕ) → Member (fileRefusal f x) (0 ∷ placeNumbers x) → (fileRefusal f x ≡ 0 → saidBy f x ≡ Refused n ∷ [] → Member n (placeNumbers x))
-    → saidOf f x ≡ Refused n ∷ [] → Member n (placeNumbers x)
+said-in : (f : State) (x : Read) (n : ℕ) → let l = placeNumbers (f .cover) x in
+    Member (fileRefusal f x) (0 ∷ l) → (fileRefusal f x ≡ 0 → saidBy f x ≡ Refused n ∷ [] → Member n l) → saidOf f x ≡ Refused n ∷ [] → Member n l
 unfolding saidOf
 said-in f x n m h = go (eqb (fileRefusal f x) 0) refl
   where
-    go : (t : Bool) → eqb (fileRefusal f x) 0 ≡ t → cond t (saidBy f x) (Refused (fileRefusal f x) ∷ []) ≡ Refused n ∷ [] → Member n (placeNumbers x)
+    go : (t : Bool) → eqb (fileRefusal f x) 0 ≡ t → cond t (saidBy f x) (Refused (fileRefusal f x) ∷ []) ≡ Refused n ∷ [] → Member n (placeNumbers (f .cover) x)
     go true e q = h (eqb-true (fileRefusal f x) 0 e) q
-    go false e q = same-number (fileRefusal f x) n (placeNumbers x) (other-than-zero (fileRefusal f x) (placeNumbers x) (eqb-false (fileRefusal f x) 0 e) m) q
+    go false e q =
+        same-number (fileRefusal f x) n (placeNumbers (f .cover) x) (other-than-zero (fileRefusal f x) (placeNumbers (f .cover) x) (eqb-false (fileRefusal f x) 0 e) m) q
 
 opened-line : (n : ℕ) → Opened ∷ [] ≡ Refused n ∷ [] → ⊥
 opened-line n q = never cc
@@ -227,10 +253,10 @@ unfolding fileRefusal saidBy
 refused-by-place s l k (refused a) n e h q =
     let m : Member a eachRecord = known-at l (refused a) k (subst AllKnown e (reads-known (length s) noKind s)) in
     said-in (madeAll start l) (refused a) n (inr m) (λ z r. same-number a n eachRecord m r) q
-refused-by-place s l k (header p g) n e h q =
-    said-in (madeAll start l) (header p g) n (header-in p g) (λ z r. absurd (opened-line n r)) q
+refused-by-place s l k (header p g asked) n e h q =
+    said-in (madeAll start l) (header p g asked) n (header-in (madeAll start l .cover) p g asked) (λ z r. absurd (opened-line n r)) q
 refused-by-place s l k (order row) n e h q =
-    said-in (madeAll start l) (order row) n (order-in (madeAll start l .session) row) (λ z r. absurd (ordered-line _ n r)) q
+    said-in (madeAll start l) (order row) n (order-in (madeAll start l .session) (madeAll start l .cover) row) (λ z r. absurd (ordered-line _ n r)) q
 refused-by-place s l k (call c) n e h q =
-    said-in (madeAll start l) (call c) n (call-in c)
+    said-in (madeAll start l) (call c) n (call-in (madeAll start l .cover) c)
     (λ z r. subst (λ (t : Bool). Member n (cond t (numbersOf c) (4 ∷ []))) (sym (eq-eqb (argumentsRefusal c) 0 z)) (call-numbers (madeAll start l) c n (call-passes s l k c e h z) z r)) q

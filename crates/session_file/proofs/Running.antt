@@ -17,10 +17,10 @@ use Rattle.bytes.specs.Puts.{Puts}
 use Rattle.bytes.proofs.Spliced.{puts-none, puts-puts}
 use Rattle.auction_engine.specs.declared.Session.{Session}
 use Rattle.session_file.specs.declared.file.Place.{Place}
-use Rattle.session_file.specs.File.{state, unopened, lastLine, maxInput, listing}
-use Rattle.session_file.specs.Parts.{afterRecord}
+use Rattle.session_file.specs.File.{unopened, lastLine, maxInput, listing}
+use Rattle.session_file.specs.Parts.{stateAt, firstPlace, afterRecord}
 use Rattle.session_file.specs.Steps.{Ran}
-use Rattle.session_file.proofs.Lines.{linesAt, lines-start, lines-end, lines-record, Onward, onward}
+use Rattle.session_file.proofs.Lines.{linesAt, lines-start, lines-end, lines-record, onward}
 use Rattle.session_file.proofs.Lent.{fits, longer, lent, to-end, puts-lent, length-lent}
 
 -- ---- what is left to list, while bytes are left
@@ -45,8 +45,8 @@ pub record Running (s before : List ℕ) (p : Place) (x : Session) (number at : 
   pub puts : Puts text 0 at before after
   pub left : text ++ linesAt fuel number s p x ≡ listing s
 
-pub running-start : (s e : List ℕ) (x : Session) → length s ≤ maxInput → x ≡ unopened → Running s e (record { at = 0; stage = 0 }) x 0 0 e
-running-start s e x h is = rw is (record {
+pub running-start : (s e : List ℕ) (x : Session) (p : Place) → length s ≤ maxInput → x ≡ unopened → p ≡ firstPlace → Running s e p x 0 0 e
+running-start s e x p h is at-first = rw (is, at-first) (record {
   text = [];
   fuel = length s;
   enough = omega arith;
@@ -70,7 +70,7 @@ unfolding written
 ran-long s e e′ w is h same = record { answer = rw (lt-leb (length (listing s)) (length e) h) is; bytes = λ f. absurd (omega arith); same-length = same }
 
 module _ {s e : List ℕ} {p : Place} {x : Session} {number at : ℕ} {e′ : List ℕ} (v : Running s e p x number at e′) where
-  at-end : length s ≤ p .at → v .text ++ lastLine (state (p .stage) x) ≡ listing s
+  at-end : length s ≤ p .at → v .text ++ lastLine (stateAt p x) ≡ listing s
   at-end h = ap (λ (l : List ℕ). v .text ++ l) (sym (lines-end (v .fuel) number s p x h)) ∙ v .left
 
 -- ---- a writer was lent the part from at on, answered w and left y
@@ -117,19 +117,19 @@ module _ {s e : List ℕ} {p : Place} {x : Session} {number at : ℕ} {e′ : Li
       ran-long s e (lent at k e′ y) w (longer d z .1) (omega (arith, text-long (nextLines number s p x) d z, simp length-append at n)) running-length
 
   -- the last line is written, or does not fit
-  running-end : {w : Written} → length s ≤ p .at → Writes (lastLine (state (p .stage) x)) w (take k (drop at e′)) y → w .refusal ≡ 0
+  running-end : {w : Written} → length s ≤ p .at → Writes (lastLine (stateAt p x)) w (take k (drop at e′)) y → w .refusal ≡ 0
       → (at + w .len ≤ length e) × Ran s (record { refusal = 0; len = at + w .len }) e (lent at k e′ y)
   running-end {w} h d z =
-      let q = text-more (lastLine (state (p .stage) x)) d z in
+      let q = text-more (lastLine (stateAt p x)) d z in
       (q .0, ran-fits s e (lent at k e′ y) (at + w .len) (q .0) running-length (rw (at-end v h) at (q .1)))
 
-  running-over : {w : Written} → length s ≤ p .at → Writes (lastLine (state (p .stage) x)) w (take k (drop at e′)) y → w .refusal ≢ 0 → Ran s w e (lent at k e′ y)
+  running-over : {w : Written} → length s ≤ p .at → Writes (lastLine (stateAt p x)) w (take k (drop at e′)) y → w .refusal ≢ 0 → Ran s w e (lent at k e′ y)
   running-over {w} h d z =
       let n = ap length (at-end v h) in
-      ran-long s e (lent at k e′ y) w (longer d z .1) (omega (arith, text-long (lastLine (state (p .stage) x)) d z, simp length-append at n)) running-length
+      ran-long s e (lent at k e′ y) w (longer d z .1) (omega (arith, text-long (lastLine (stateAt p x)) d z, simp length-append at n)) running-length
 
   -- by the answer
-  pub running-last : {w : Written} → length s ≤ p .at → Writes (lastLine (state (p .stage) x)) w (take k (drop at e′)) y
+  pub running-last : {w : Written} → length s ≤ p .at → Writes (lastLine (stateAt p x)) w (take k (drop at e′)) y
       → (at + w .len ≤ length e) × Ran s (cond (eqb (w .refusal) 0) (record { refusal = 0; len = at + w .len }) w) e (lent at k e′ y)
   running-last {w} h d =
       ⊎-elim (λ (t : eqb (w .refusal) 0 ≡ true). rw t (running-end h d (eqb-true (w .refusal) 0 t)))

@@ -20,6 +20,7 @@ use Rattle.book.specs.declared.Row.{Row}
 use Rattle.events.specs.Events.{eventPair, pairEvents, packed, eventsIn}
 use Rattle.events.specs.declared.Event.the-variants.{Opened, Ordered, Refused}
 use Rattle.events.proofs.Packed.{events-packed, pair-packed}
+use Rattle.escrow.specs.declared.Cover.{Cover}
 use Rattle.auction_engine.specs.declared.Session.{Session}
 use Rattle.auction_engine.specs.declared.Answer.{Answer}
 use Rattle.auction_engine.specs.declared.changes.Change.{Change}
@@ -34,13 +35,13 @@ use Rattle.session_file.specs.declared.fields.Fields.{Fields}
 use Rattle.session_file.specs.declared.fields.Record.{Record}
 use Rattle.session_file.specs.declared.file.Place.{Place}
 use Rattle.session_file.specs.declared.file.Step.{Step}
-use Rattle.session_file.specs.Marks.{orderKind}
+use Rattle.session_file.specs.Marks.{headerKind, orderKind}
 use Rattle.session_file.specs.Fields.{Read, refused, header, order, call, fieldsOf}
 use Rattle.session_file.specs.Reads.{markAt, shapeAt, recordAt, readingRefusal, readNext}
 use Rattle.session_file.specs.File.{State, state, fileRefusal, made, saidBy, saidOf}
 use Rattle.session_file.specs.Calls.{recordOf, fieldsIn}
 use Rattle.session_file.specs.Steps.{recordIn, placeAfter, earlyRefusal, changeIn, stops, stepOf, saidAll}
-use Rattle.session_file.specs.Parts.{afterRecord}
+use Rattle.session_file.specs.Parts.{stateAt, afterRecord}
 use Rattle.session_file.proofs.FewEvents.{few-events}
 use Rattle.session_file.proofs.Reading.{kindRead, fields-kind, passed, read-good, read-bad, read-whole, read-kind}
 
@@ -81,19 +82,19 @@ said-change : (x : Session) (c : Change) → c .refusal ≡ 0 → pairEvents (c 
 unfolding saidAll
 said-change x c z = rw (eq-eqb (c .refusal) 0 z) (sym (pair-packed (c .events)))
 
-said-answer : (x : Session) (stage : ℕ) (c : Call) → eventsIn (saidAll (answer x c)) ≡ saidBy (state stage x) (call c)
+said-answer : (x : Session) (stage : ℕ) (cover : Cover) (c : Call) → eventsIn (saidAll (answer x c)) ≡ saidBy (state stage cover x) (call c)
 unfolding saidAll saidBy answer
-said-answer x stage c =
+said-answer x stage cover c =
     ⊎-elim
     (λ (t : eqb (refusal x c) 0 ≡ true). rw t (events-packed (events x c) (few-events x c (eqb-true _ 0 t))))
     (λ (t : eqb (refusal x c) 0 ≡ false). rw (t, t) (events-packed (Refused (refusal x c) ∷ []) (omega arith)))
     (tested (eqb (refusal x c) 0))
 
 -- a refused call: the session as given, and its number
-refused-call : (x : Session) (stage : ℕ) (c : Call) (n : ℕ) → n ≡ answer x c .refusal → n ≢ 0
-    → (x ≡ answer x c .session) × (Refused n ∷ [] ≡ saidBy (state stage x) (call c))
+refused-call : (x : Session) (stage : ℕ) (cover : Cover) (c : Call) (n : ℕ) → n ≡ answer x c .refusal → n ≢ 0
+    → (x ≡ answer x c .session) × (Refused n ∷ [] ≡ saidBy (state stage cover x) (call c))
 unfolding answer saidBy
-refused-call x stage c n is z = go (eqb (refusal x c) 0) is
+refused-call x stage cover c n is z = go (eqb (refusal x c) 0) is
   where
     go : (t : Bool) → n ≡ cond t (record { refusal = 0; session = effect x c; events = packed (events x c) }) (refusedBy x (refusal x c)) .refusal
         → (x ≡ cond t (record { refusal = 0; session = effect x c; events = packed (events x c) }) (refusedBy x (refusal x c)) .session)
@@ -102,113 +103,117 @@ refused-call x stage c n is z = go (eqb (refusal x c) 0) is
     go false e = (refl, ap (λ (m : ℕ). Refused m ∷ []) e)
 
 -- ---- a record with its fields f, read as r: what is to be done with it, t, and what it changes, c
-pub record Stepped (x : Session) (stage : ℕ) (r : Read) (f : Fields) (c : Change) (t : Step) : Type 0 where
-  pub ends : t .ends ≡ not (eqb (fileRefusal (state stage x) r) 0)
+pub record Stepped (x : Session) (stage : ℕ) (cover : Cover) (r : Read) (f : Fields) (c : Change) (t : Step) : Type 0 where
+  pub ends : t .ends ≡ not (eqb (fileRefusal (state stage cover x) r) 0)
   pub order-place : c .«order_at» < maxOrders
   pub fill-place : c .«fill_at» < maxFills
   -- the session after it, and what is said, by the way in which it is run
   pub by-refusal : t .refusal ≢ 0
-      → (x ≡ cond (eqb (fileRefusal (state stage x) r) 0) (made (state stage x) r .session) x)
-      × (Refused (t .refusal) ∷ [] ≡ saidOf (state stage x) r)
+      → (x ≡ cond (eqb (fileRefusal (state stage cover x) r) 0) (made (state stage cover x) r .session) x)
+      × (Refused (t .refusal) ∷ [] ≡ saidOf (state stage cover x) r)
   pub by-opening : t .refusal ≡ 0 → t .opens ≡ true
-      → (fresh (f .params) (f .given) ≡ cond (eqb (fileRefusal (state stage x) r) 0) (made (state stage x) r .session) x)
-      × (Opened ∷ [] ≡ saidOf (state stage x) r)
+      → (fresh (f .params) (f .given) ≡ cond (eqb (fileRefusal (state stage cover x) r) 0) (made (state stage cover x) r .session) x)
+      × (Opened ∷ [] ≡ saidOf (state stage cover x) r)
   pub by-apply : t .refusal ≡ 0 → t .opens ≡ false → c .undecided ≡ true
-      → (applied x (f .call) .session ≡ cond (eqb (fileRefusal (state stage x) r) 0) (made (state stage x) r .session) x)
-      × (eventsIn (saidAll (applied x (f .call))) ≡ saidOf (state stage x) r)
+      → (applied x (f .call) .session ≡ cond (eqb (fileRefusal (state stage cover x) r) 0) (made (state stage cover x) r .session) x)
+      × (eventsIn (saidAll (applied x (f .call))) ≡ saidOf (state stage cover x) r)
   pub by-change : t .refusal ≡ 0 → t .opens ≡ false → c .undecided ≡ false
-      → (changed x c ≡ cond (eqb (fileRefusal (state stage x) r) 0) (made (state stage x) r .session) x)
-      × (pairEvents (c .events) ≡ saidOf (state stage x) r)
+      → (changed x c ≡ cond (eqb (fileRefusal (state stage cover x) r) 0) (made (state stage cover x) r .session) x)
+      × (pairEvents (c .events) ≡ saidOf (state stage cover x) r)
 
 -- the places of any record's change are among those of the arrays
-change-within : (x : Session) (f : Fields) → (changeIn x f .«order_at» < maxOrders) × (changeIn x f .«fill_at» < maxFills)
+change-within : (x : Session) (cover : Cover) (f : Fields) → (changeIn x cover f .«order_at» < maxOrders) × (changeIn x cover f .«fill_at» < maxFills)
 unfolding recordChange
-change-within x f = go (eqb (f .kind) orderKind)
+change-within x cover f = go (eqb (f .kind) orderKind)
   where
-    go : (t : Bool) → (cond t (orderChange x (f .row)) (changeFor x (f .call)) .«order_at» < maxOrders) × (cond t (orderChange x (f .row)) (changeFor x (f .call)) .«fill_at» < maxFills)
-    go true = order-placed x (f .row)
+    go : (t : Bool) → (cond t (orderChange x cover (f .row)) (changeFor x (f .call)) .«order_at» < maxOrders) × (cond t (orderChange x cover (f .row)) (changeFor x (f .call)) .«fill_at» < maxFills)
+    go true = order-placed x cover (f .row)
     go false = change-placed x (f .call)
 
 -- the kind that the fields name
 kind-in : (r : Read) → fieldsIn r .kind ≡ kindRead r
 kind-in (refused number) = refl
-kind-in (header p g) = refl
+kind-in (header p g asked) = refl
 kind-in (order row) = refl
 kind-in (call c) = refl
 
-cond-not : {A : Type 0} (t : Bool) (a b : A) → cond (not t) a b ≡ cond t b a
-cond-not true a b = refl
-cond-not false a b = refl
+-- what is asked of escrows after a record
+cover-in : (f : State) (r : Read) → made f r .cover ≡ cond (eqb (fieldsIn r .kind) headerKind) (fieldsIn r .cover) (f .cover)
+unfolding made
+cover-in f (refused number) = refl
+cover-in f (header p g asked) = refl
+cover-in f (order row) = refl
+cover-in f (call c) = refl
 
-module _ (x : Session) (stage : ℕ) where
+module _ (x : Session) (stage : ℕ) (cover : Cover) where
   abbrev st : State
-  st = state stage x
+  st = state stage cover x
 
   -- a record that ends the file
-  stopped : (r : Read) (f : Fields) (n : ℕ) → n ≡ fileRefusal st r → n ≢ 0 → Stepped x stage r f (changeIn x f) (stops n)
+  stopped : (r : Read) (f : Fields) (n : ℕ) → n ≡ fileRefusal st r → n ≢ 0 → Stepped x stage cover r f (changeIn x cover f) (stops n)
   unfolding saidOf
   stopped r f n is z = record {
     ends = rw (← is, ne-eqb n 0 z);
-    order-place = change-within x f .0;
-    fill-place = change-within x f .1;
+    order-place = change-within x cover f .0;
+    fill-place = change-within x cover f .1;
     by-refusal = λ _. (rw (← is, ne-eqb n 0 z), rw (← is, ne-eqb n 0 z));
     by-opening = λ e _. absurd (z e);
     by-apply = λ e _ _. absurd (z e);
     by-change = λ e _ _. absurd (z e);
   }
 
-  header-stepped : (p : Params) (g : Given) (n : ℕ) → let f = fieldsIn (header p g) in Stepped x stage (header p g) f (changeIn x f) (stepOf 0 f n)
+  header-stepped : (p : Params) (g : Given) (asked : Cover) (n : ℕ) → let f = fieldsIn (header p g asked) in Stepped x stage cover (header p g asked) f (changeIn x cover f) (stepOf 0 f n)
   unfolding stepOf earlyRefusal _then_ fileRefusal made saidBy saidOf
-  header-stepped p g n =
+  header-stepped p g asked n =
       ⊎-elim
-      (λ (t : eqb (headerRefusal p g) 0 ≡ true). rw t (record {
+      (λ (t : eqb (headerRefusal p g asked) 0 ≡ true). rw t (record {
         ends = rw t;
-        order-place = change-within x (fieldsIn (header p g)) .0;
-        fill-place = change-within x (fieldsIn (header p g)) .1;
+        order-place = change-within x cover (fieldsIn (header p g asked)) .0;
+        fill-place = change-within x cover (fieldsIn (header p g asked)) .1;
         by-refusal = λ z. absurd (z refl);
         by-opening = λ _ _. (rw t, rw t);
         by-apply = λ _ h _. absurd (false≢true (sym h));
         by-change = λ _ h _. absurd (false≢true (sym h));
       }))
-      (λ (t : eqb (headerRefusal p g) 0 ≡ false). rw t (stopped (header p g) (fieldsIn (header p g)) (headerRefusal p g) refl (eqb-false _ 0 t)))
-      (tested (eqb (headerRefusal p g) 0))
+      (λ (t : eqb (headerRefusal p g asked) 0 ≡ false). rw t (stopped (header p g asked) (fieldsIn (header p g asked)) (headerRefusal p g asked) refl (eqb-false _ 0 t)))
+      (tested (eqb (headerRefusal p g asked) 0))
 
   -- an order's change: decided, and refused by the row's number
-  order-decided : (row : Row) → orderChange x row .undecided ≡ false
+  order-decided : (row : Row) → orderChange x cover row .undecided ≡ false
   unfolding orderChange
-  order-decided row = go (eqb (orderRefusal x row) 0)
+  order-decided row = go (eqb (orderRefusal x cover row) 0)
     where
       go : (t : Bool)
-          → cond t (writing (withOrder x row) false (x .«order_count») (listed row) 0 (fillAt x 0) 0 (eventPair (Ordered (x .«order_count») ∷ []))) (unchanged x (orderRefusal x row)) .undecided ≡ false
+          → cond t (writing (withOrder x row) false (x .«order_count») (listed row) 0 (fillAt x 0) 0 (eventPair (Ordered (x .«order_count») ∷ []))) (unchanged x (orderRefusal x cover row)) .undecided ≡ false
       go true = refl
       go false = refl
 
-  order-number : (row : Row) → orderChange x row .refusal ≡ orderRefusal x row
+  order-number : (row : Row) → orderChange x cover row .refusal ≡ orderRefusal x cover row
   unfolding orderChange
   order-number row =
-      ⊎-elim (λ (t : eqb (orderRefusal x row) 0 ≡ true). rw t (sym (eqb-true _ 0 t))) (λ (t : eqb (orderRefusal x row) 0 ≡ false). rw t) (tested (eqb (orderRefusal x row) 0))
+      ⊎-elim (λ (t : eqb (orderRefusal x cover row) 0 ≡ true). rw t (sym (eqb-true _ 0 t))) (λ (t : eqb (orderRefusal x cover row) 0 ≡ false). rw t) (tested (eqb (orderRefusal x cover row) 0))
 
-  order-said : (row : Row) → orderRefusal x row ≡ 0 → pairEvents (orderChange x row .events) ≡ Ordered (x .«order_count») ∷ []
+  order-said : (row : Row) → orderRefusal x cover row ≡ 0 → pairEvents (orderChange x cover row .events) ≡ Ordered (x .«order_count») ∷ []
   unfolding orderChange
-  order-said row z = rw (eq-eqb (orderRefusal x row) 0 z)
+  order-said row z = rw (eq-eqb (orderRefusal x cover row) 0 z)
 
-  order-stepped : (row : Row) → let f = fieldsIn (order row) in Stepped x stage (order row) f (changeIn x f) (stepOf 0 f (changeIn x f .refusal))
+  order-stepped : (row : Row) → let f = fieldsIn (order row) in Stepped x stage cover (order row) f (changeIn x cover f) (stepOf 0 f (changeIn x cover f .refusal))
   unfolding stepOf earlyRefusal recordChange _then_ fileRefusal made saidBy saidOf
   order-stepped row = record {
     ends = ap (λ (n : ℕ). not (eqb n 0)) (order-number row);
-    order-place = order-placed x row .0;
-    fill-place = order-placed x row .1;
+    order-place = order-placed x cover row .0;
+    fill-place = order-placed x cover row .1;
     by-refusal = λ z.
-        let e : eqb (orderRefusal x row) 0 ≡ false = rw (← order-number row) (ne-eqb (orderChange x row .refusal) 0 z) in
+        let e : eqb (orderRefusal x cover row) 0 ≡ false = rw (← order-number row) (ne-eqb (orderChange x cover row .refusal) 0 z) in
         (rw e, rw e (ap (λ (n : ℕ). Refused n ∷ []) (order-number row)));
     by-opening = λ _ h. absurd (false≢true h);
     by-apply = λ _ _ h. absurd (false≢true (sym (order-decided row) ∙ h));
     by-change = λ z _ _.
         let n = sym (order-number row) ∙ z in
-        (rw (eq-eqb (orderRefusal x row) 0 n) (order-written x row n), rw (eq-eqb (orderRefusal x row) 0 n) (order-said row n));
+        (rw (eq-eqb (orderRefusal x cover row) 0 n) (order-written x cover row n), rw (eq-eqb (orderRefusal x cover row) 0 n) (order-said row n));
   }
 
-  call-stepped : (c : Call) → let f = fieldsIn (call c) in Stepped x stage (call c) f (changeIn x f) (stepOf 0 f (changeIn x f .refusal))
+  call-stepped : (c : Call) → let f = fieldsIn (call c) in Stepped x stage cover (call c) f (changeIn x cover f) (stepOf 0 f (changeIn x cover f .refusal))
   unfolding stepOf earlyRefusal recordChange _then_ fileRefusal made saidOf
   call-stepped c =
       ⊎-elim
@@ -219,30 +224,30 @@ module _ (x : Session) (stage : ℕ) where
         by-refusal = λ z.
             let k = changeFor x (recordOf c) in
             let d : k .undecided ≡ false = ⊎-elim (λ (h : k .undecided ≡ true). absurd (z (unrefused x (recordOf c) h))) (λ (h : k .undecided ≡ false). h) (tested (k .undecided)) in
-            let e = refused-call x stage c (k .refusal) (ap (λ (a : Answer). a .refusal) (change-applied x (recordOf c) d ∙ applied-is x c)) z in
+            let e = refused-call x stage cover c (k .refusal) (ap (λ (a : Answer). a .refusal) (change-applied x (recordOf c) d ∙ applied-is x c)) z in
             (rw t (e .0), rw t (e .1));
         by-opening = λ _ h. absurd (false≢true h);
-        by-apply = λ _ _ _. (rw (t, applied-is x c), rw (t, applied-is x c) (said-answer x stage c));
+        by-apply = λ _ _ _. (rw (t, applied-is x c), rw (t, applied-is x c) (said-answer x stage cover c));
         by-change = λ z _ h.
             let e : madeOf x (changeFor x (recordOf c)) ≡ answer x c = change-applied x (recordOf c) h ∙ applied-is x c in
-            (rw t (ap (λ (a : Answer). a .session) e), rw t (said-change x (changeFor x (recordOf c)) z ∙ ap (λ (a : Answer). eventsIn (saidAll a)) e ∙ said-answer x stage c));
+            (rw t (ap (λ (a : Answer). a .session) e), rw t (said-change x (changeFor x (recordOf c)) z ∙ ap (λ (a : Answer). eventsIn (saidAll a)) e ∙ said-answer x stage cover c));
       }))
       (λ (t : eqb (argumentsRefusal c) 0 ≡ false). rw (arguments-are c, t) (stopped (call c) (fieldsIn (call c)) (argumentsRefusal c) refl (eqb-false _ 0 t)))
       (tested (eqb (argumentsRefusal c) 0))
 
-  of-read : (r : Read) → 0 < kindRead r → Stepped x stage r (fieldsIn r) (changeIn x (fieldsIn r)) (stepOf 0 (fieldsIn r) (changeIn x (fieldsIn r) .refusal))
+  of-read : (r : Read) → 0 < kindRead r → Stepped x stage cover r (fieldsIn r) (changeIn x cover (fieldsIn r)) (stepOf 0 (fieldsIn r) (changeIn x cover (fieldsIn r) .refusal))
   of-read (refused m) h = absurd (omega arith)
-  of-read (header p g) h = header-stepped p g _
+  of-read (header p g asked) h = header-stepped p g asked _
   of-read (order row) h = order-stepped row
   of-read (call c) h = call-stepped c
 
   -- a refused reading ends the file
-  bad-stepped : (n : ℕ) (f : Fields) (m : ℕ) → n ≢ 0 → Stepped x stage (refused n) f (changeIn x f) (stepOf n f m)
+  bad-stepped : (n : ℕ) (f : Fields) (m : ℕ) → n ≢ 0 → Stepped x stage cover (refused n) f (changeIn x cover f) (stepOf n f m)
   unfolding stepOf earlyRefusal _then_ fileRefusal
   bad-stepped n f m z = rw (ne-eqb n 0 z, ne-eqb n 0 z) (stopped (refused n) f n refl z)
 
   pub read-stepped : (rest : List ℕ) → let f = fieldsIn (fieldsOf (markAt rest) (recordAt rest)) in
-      Stepped x stage (readNext stage rest) f (changeIn x f) (stepOf (readingRefusal stage rest) f (changeIn x f .refusal))
+      Stepped x stage cover (readNext stage rest) f (changeIn x cover f) (stepOf (readingRefusal stage rest) f (changeIn x cover f .refusal))
   read-stepped rest =
       ⊎-elim
       (λ (t : eqb (readingRefusal stage rest) 0 ≡ true).
@@ -254,21 +259,35 @@ module _ (x : Session) (stage : ℕ) where
 
 -- ---- as the code comes to it: the record, what it changes, and what is to be done with it
 module _ (s : List ℕ) (p : Place) (x : Session) {r : Record} {c : Change} {t : Step} (is : r ≡ recordIn s p)
-    (change : c ≡ changeIn x (r .fields)) (step : t ≡ stepOf (r .refusal) (r .fields) (c .refusal)) where
-  pub code-stepped : Stepped x (p .stage) (readNext (p .stage) (drop (p .at) s)) (r .fields) c t
-  code-stepped = rw (step, change, is) (read-stepped x (p .stage) (drop (p .at) s))
+    (change : c ≡ changeIn x (p .cover) (r .fields)) (step : t ≡ stepOf (r .refusal) (r .fields) (c .refusal)) where
+  pub code-stepped : Stepped x (p .stage) (p .cover) (readNext (p .stage) (drop (p .at) s)) (r .fields) c t
+  code-stepped = rw (step, change, is) (read-stepped x (p .stage) (p .cover) (drop (p .at) s))
 
   kind-is : r .fields .kind ≡ shapeAt (drop (p .at) s) .kind
   kind-is = rw is (kind-in (fieldsOf (markAt (drop (p .at) s)) (recordAt (drop (p .at) s))) ∙ fields-kind (markAt (drop (p .at) s)) (recordAt (drop (p .at) s)))
 
+  -- what is asked of escrows next, if the record lets the file go on
+  next-cover : fileRefusal (stateAt p x) (readNext (p .stage) (drop (p .at) s)) ≡ 0
+      → cond (eqb (r .fields .kind) headerKind) (r .fields .cover) (p .cover) ≡ made (stateAt p x) (readNext (p .stage) (drop (p .at) s)) .cover
+  next-cover z =
+      let left = drop (p .at) s in
+      rw (is, read-good (p .stage) left (read-whole (p .stage) left (stateAt p x) z)) (sym (cover-in (stateAt p x) (fieldsOf (markAt left) (recordAt left))))
+
   -- the next place
-  pub code-place : placeAfter p (r .fields .kind) (r .width) (t .ends) (length s) ≡ afterRecord s p x .place
+  pub code-place : placeAfter p (r .fields) (r .width) (t .ends) (length s) ≡ afterRecord s p x .place
   unfolding placeAfter afterRecord
-  code-place = rw (code-stepped .ends, kind-is, is) (cond-not (eqb (fileRefusal (state (p .stage) x) (readNext (p .stage) (drop (p .at) s))) 0) _ _)
+  code-place =
+      let n = fileRefusal (stateAt p x) (readNext (p .stage) (drop (p .at) s)) in
+      ⊎-elim
+      (λ (g : eqb n 0 ≡ true).
+      let width : r .width ≡ shapeAt (drop (p .at) s) .width = ap (λ (q : Record). q .width) is in
+      rw (code-stepped .ends, g) (λ i. record { at = p .at + width i; stage = kind-is i; cover = next-cover (eqb-true n 0 g) i }))
+      (λ (g : eqb n 0 ≡ false). rw (code-stepped .ends, g))
+      (tested (eqb n 0))
 
   pub code-fits : p .at ≤ length s → t .ends ≡ false → p .at + r .width ≤ length s
   code-fits within z =
       let left = drop (p .at) s in
       let good = eqb-true _ 0 (not-false _ (sym (code-stepped .ends) ∙ z)) in
-      let q = passed (p .stage) left (read-whole (p .stage) left (state (p .stage) x) good) in
+      let q = passed (p .stage) left (read-whole (p .stage) left (stateAt p x) good) in
       rw is (omega (arith, q .whole, length-drop (p .at) s))

@@ -7,6 +7,8 @@ use Rattle.book.specs.Book.{noInvestor, noWallet}
 use Rattle.book.specs.declared.Params.{Params}
 use Rattle.book.specs.declared.Given.{Given}
 use Rattle.book.specs.declared.Row.{Row}
+use Rattle.escrow.specs.declared.Cover.{Cover}
+use Rattle.escrow.specs.declared.Cover.the-variants.{Unasked}
 use Rattle.auction_engine.specs.Call.{Call, screen, clear, allocate, exercise, close, settle, skip, finish, expire, screenKind, clearKind, allocateKind, exerciseKind, closeKind, settleKind, skipKind, finishKind, expireKind}
 use Rattle.auction_engine.specs.declared.CallRecord.{CallRecord}
 use Rattle.session_file.specs.declared.fields.Fields.{Fields}
@@ -64,20 +66,20 @@ blankRow = record { owner = noWallet; side = 0; escrowed = 0; revealed = false; 
 
 -- the struct of a record's fields, by its kind
 abbrev pub noFields : Fields
-noFields = record { kind = noKind; params = blankParams; given = blankGiven; row = blankRow; call = noCall }
+noFields = record { kind = noKind; params = blankParams; given = blankGiven; cover = Unasked; row = blankRow; call = noCall }
 
-abbrev pub headerFields : Params → Given → Fields
-headerFields p g = record { kind = headerKind; params = p; given = g; row = blankRow; call = noCall }
+abbrev pub headerFields : Params → Given → Cover → Fields
+headerFields p g cover = record { kind = headerKind; params = p; given = g; cover = cover; row = blankRow; call = noCall }
 
 abbrev pub orderFields : Row → Fields
-orderFields r = record { kind = orderKind; params = blankParams; given = blankGiven; row = r; call = noCall }
+orderFields r = record { kind = orderKind; params = blankParams; given = blankGiven; cover = Unasked; row = r; call = noCall }
 
 abbrev pub callFields : CallRecord → Fields
-callFields c = record { kind = callKind; params = blankParams; given = blankGiven; row = blankRow; call = c }
+callFields c = record { kind = callKind; params = blankParams; given = blankGiven; cover = Unasked; row = blankRow; call = c }
 
 -- the struct of what was read; of a refusal, the blank one
 abbrev pub fieldsIn : Read → Fields
 fieldsIn (refused number) = noFields
-fieldsIn (header p g) = headerFields p g
+fieldsIn (header p g cover) = headerFields p g cover
 fieldsIn (order row) = orderFields row
 fieldsIn (call c) = callFields (recordOf c)

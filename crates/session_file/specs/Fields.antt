@@ -4,9 +4,11 @@ use Prim.Native.Nat.{ℕ}
 use Rattle.book.specs.declared.Params.{Params}
 use Rattle.book.specs.declared.Given.{Given}
 use Rattle.book.specs.declared.Row.{Row}
+use Rattle.escrow.specs.declared.Cover.{Cover}
+use Rattle.escrow.specs.declared.Cover.the-variants.{Unasked, Decimals}
 use Rattle.auction_engine.specs.Call.{Call, screen, clear, allocate, exercise, close, settle, skip, finish, expire}
 use Rattle.session_file.specs.declared.records.Mark.{Mark}
-use Rattle.session_file.specs.declared.records.Mark.the-variants.{Unknown, SH, OR, SC, CL, AL, RX, RC, ST, SK, FN, EX}
+use Rattle.session_file.specs.declared.records.Mark.the-variants.{Unknown, SH, SI, OR, SC, CL, AL, RX, RC, ST, SK, FN, EX}
 use Rattle.bytes.specs.Bytes.{word, bytesAt, timeAt, flagAt}
 
 -- `SH`: reveal_end 8, rofr_window 8, settle_deadline 8, max_cash 8, min_reveals 1, forced 1, rofr_authority 32
@@ -48,15 +50,16 @@ rowOf rec =
 -- what reading finds: a refusal of 'Each record', or a header, an order or a call
 pub data Read : Type 0 where
   refused : (refusal : ℕ) → Read
-  header : Params → Given → Read
+  header : Params → Given → Cover → Read
   order : Row → Read
   call : Call → Read
 
--- the fields of each kind: `SC` now 8, order 1, side 1, gate verdict 1, has-id 1, id 16; `CL` `FN` `EX` now; `AL` now, max_fills 1;
+-- the fields of each kind: '`SI` is `SH` plus one byte, decimals'; `SC` now 8, order 1, side 1, gate verdict 1, has-id 1, id 16; `CL` `FN` `EX` now; `AL` now, max_fills 1;
 -- `RX` now, issuer 32, fill 4, qty 8; `RC` now, caller 32; `ST` fill 4; `SK` now, fill 4, reason 1
 unfoldable pub fieldsOf : Mark → List ℕ → Read
 fieldsOf Unknown rec = refused 2
-fieldsOf SH rec = header (paramsOf rec) (givenOf rec)
+fieldsOf SH rec = header (paramsOf rec) (givenOf rec) Unasked
+fieldsOf SI rec = header (paramsOf rec) (givenOf rec) (Decimals (word 1 rec 94))
 fieldsOf OR rec = order (rowOf rec)
 fieldsOf SC rec =
     call (screen (timeAt rec 2) (word 1 rec 10) (word 1 rec 11) (word 1 rec 12) (flagAt rec 13) (bytesAt 16 rec 14))

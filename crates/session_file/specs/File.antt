@@ -1,11 +1,13 @@
 -- What the records of a file make, what is said of each, and the listing.
-use mathlib.Core.Bool.{Bool, false, cond, not}
+use mathlib.Core.Bool.{false, cond, not}
 use mathlib.Core.List.{List, [], _∷_, _++_}
 use Prim.Native.Nat.{ℕ, _+_}
 use lib.Dec.{leb, eqb}
 use lib.IntN.{pos}
 use lib.ListN.{length}
 use Rattle.book.specs.Book.{noWallet}
+use Rattle.escrow.specs.declared.Cover.{Cover}
+use Rattle.escrow.specs.declared.Cover.the-variants.{Unasked}
 use Rattle.events.specs.declared.Event.{Event}
 use Rattle.events.specs.declared.Event.the-variants.{Opened, Ordered, Refused}
 use Rattle.listing.specs.Lines.{recordLines, endLine}
@@ -18,13 +20,14 @@ use Rattle.session_file.specs.Marks.{noKind, headerKind, orderKind, call
 use Rattle.session_file.specs.Fields.{Read, refused, header, order, call}
 use Rattle.session_file.specs.Reads.{reads}
 
--- what a file carries from record to record: the kind of the record before, and the session
+-- what a file carries from record to record: the kind of the record before, what its header asks of escrows, and the session
 pub record State : Type 0 where
   pub stage : ℕ
+  pub cover : Cover
   pub session : Session
 
-abbrev pub state : (stage : ℕ) → Session → State
-state stage s = record { stage = stage; session = s }
+abbrev pub state : (stage : ℕ) → Cover → Session → State
+state stage cover s = record { stage = stage; cover = cover; session = s }
 
 -- before the first record: no header yet, so the session is not shown to anybody
 unfoldable pub unopened : Session
@@ -34,26 +37,26 @@ unopened =
     (record { mark = false; reserve = 0; reference = 0; policy = 0; «band_bps» = 0 })
 
 abbrev pub start : State
-start = state noKind unopened
+start = state noKind Unasked unopened
 
--- a file refusal: of reading, of the rows `SH` and `OR`, or a call's '4 a field outside its values'; 0 lets the file go on
+-- a file refusal: of reading, of the rows `SH`, `SI` and `OR`, or a call's '4 a field outside its values'; 0 lets the file go on
 unfoldable pub fileRefusal : State → Read → ℕ
 fileRefusal f (refused number) = number
-fileRefusal f (header p g) = headerRefusal p g
-fileRefusal f (order row) = orderRefusal (f .session) row
+fileRefusal f (header p g cover) = headerRefusal p g cover
+fileRefusal f (order row) = orderRefusal (f .session) (f .cover) row
 fileRefusal f (call c) = argumentsRefusal c
 
 -- what a file carries on after a record that lets it go on
 unfoldable pub made : State → Read → State
 made f (refused number) = f
-made f (header p g) = state headerKind (fresh p g)
-made f (order row) = state orderKind (withOrder (f .session) row)
-made f (call c) = state callKind (answer (f .session) c .session)
+made f (header p g cover) = state headerKind cover (fresh p g)
+made f (order row) = state orderKind (f .cover) (withOrder (f .session) row)
+made f (call c) = state callKind (f .cover) (answer (f .session) c .session)
 
 -- what is said of such a record: 'a refused call lets the file go on'
 unfoldable pub saidBy : State → Read → List Event
 saidBy f (refused number) = Refused number ∷ []
-saidBy f (header p g) = Opened ∷ []
+saidBy f (header p g cover) = Opened ∷ []
 saidBy f (order row) = Ordered (f .session .«order_count») ∷ []
 saidBy f (call c) = cond (eqb (refusal (f .session) c) 0) (events (f .session) c) (Refused (refusal (f .session) c) ∷ [])
 

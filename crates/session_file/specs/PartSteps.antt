@@ -19,9 +19,9 @@ use Rattle.session_file.specs.declared.file.Step.{Step}
 use Rattle.session_file.specs.declared.parts.Cursor.{Cursor}
 use Rattle.session_file.specs.declared.parts.Next.{Next}
 use Rattle.session_file.specs.declared.parts.Handled.{Handled}
-use Rattle.session_file.specs.File.{state, lastLine}
+use Rattle.session_file.specs.File.{lastLine}
 use Rattle.session_file.specs.Steps.{saidAll}
-use Rattle.session_file.specs.Parts.{cursorAt, afterRecord, partAt, nextNumber, cursorAfter}
+use Rattle.session_file.specs.Parts.{stateAt, cursorAt, afterRecord, partAt, nextNumber, cursorAfter}
 
 -- what falls with each part
 abbrev pub partsLeft : List ℕ → Cursor → ℕ
@@ -32,7 +32,7 @@ abbrev pub wholeRefused : Cursor → (end : ℕ) → Next
 wholeRefused t end =
     record {
       said = packed (Refused 26 ∷ []);
-      cursor = cursorAt (record { at = end; stage = t .place .stage }) (t .session) (nextNumber (t .number)) false (t .ended);
+      cursor = cursorAt (record { at = end; stage = t .place .stage; cover = t .place .cover }) (t .session) (nextNumber (t .number)) false (t .ended);
     }
 
 -- the record at the place
@@ -44,7 +44,7 @@ pub record RecordNext (s : List ℕ) (t : Cursor) (r : Next) : Type 0 where
 -- the next part by what is said; the last line is not among it
 pub record NextOf (s : List ℕ) (t : Cursor) (r : Next) : Type 0 where
   pub part : r .cursor .ended ≡ false → partAt s t ≡ recordLines (t .number) (eventsIn (r .said))
-  pub last : r .cursor .ended ≡ true → partAt s t ≡ lastLine (state (t .place .stage) (t .session))
+  pub last : r .cursor .ended ≡ true → partAt s t ≡ lastLine (stateAt (t .place) (t .session))
   pub cursor : r .cursor ≡ cursorAfter s t
 
 -- the session after a record and what is said of it, by the way in which it is run

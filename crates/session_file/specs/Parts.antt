@@ -5,6 +5,7 @@ use mathlib.Core.List.{List, [], _∷_, _++_}
 use Prim.Native.Nat.{ℕ, zero, suc, _+_, _%_, _^_, _≤_, _<_}
 use lib.Dec.{ltb, eqb}
 use lib.ListN.{length, drop}
+use Rattle.escrow.specs.declared.Cover.the-variants.{Unasked}
 use Rattle.events.specs.declared.Event.{Event}
 use Rattle.events.specs.declared.Event.the-variants.{Refused}
 use Rattle.listing.specs.Lines.{recordLines, maxRecord}
@@ -18,6 +19,14 @@ use Rattle.session_file.specs.Fields.{Read}
 use Rattle.session_file.specs.Reads.{shapeAt, readNext}
 use Rattle.session_file.specs.File.{State, state, unopened, fileRefusal, made, saidOf, lastLine, maxInput, listing}
 
+-- what a file carries on at a place
+abbrev pub stateAt : Place → Session → State
+stateAt p x = state (p .stage) (p .cover) x
+
+-- before the first record
+abbrev pub firstPlace : Place
+firstPlace = record { at = 0; stage = noKind; cover = Unasked }
+
 -- what the record at a place leaves, where s is the file and x the session: the place after it, the session, and what is said
 pub record AfterRecord : Type 0 where
   pub place : Place
@@ -27,13 +36,13 @@ pub record AfterRecord : Type 0 where
 unfoldable pub afterRecord : List ℕ → Place → Session → AfterRecord
 afterRecord s p x =
     let rest : List ℕ = drop (p .at) s in
-    let f : State = state (p .stage) x in
+    let f : State = stateAt p x in
     let r : Read = readNext (p .stage) rest in
     record {
       place =
           cond (eqb (fileRefusal f r) 0)
-          (record { at = p .at + shapeAt rest .width; stage = shapeAt rest .kind })
-          (record { at = length s; stage = p .stage });
+          (record { at = p .at + shapeAt rest .width; stage = shapeAt rest .kind; cover = made f r .cover })
+          (record { at = length s; stage = p .stage; cover = p .cover });
       session = cond (eqb (fileRefusal f r) 0) (made f r .session) x;
       said = saidOf f r;
     }
@@ -44,7 +53,7 @@ cursorAt p x number tooLong ended = record { place = p; number = number; «too_l
 
 -- before the first part
 unfoldable pub begun : (tooLong : Bool) → Cursor
-begun tooLong = cursorAt (record { at = 0; stage = noKind }) unopened 0 tooLong false
+begun tooLong = cursorAt firstPlace unopened 0 tooLong false
 
 -- the next part: 'For 26 .. `0 refused 26`, `end none`'; a record's lines while bytes are left; then the last line, and nothing after it
 unfoldable pub partAt : List ℕ → Cursor → List ℕ
@@ -52,7 +61,7 @@ partAt s t =
     cond (t .ended) []
     (cond (t .«too_long») (recordLines (t .number) (Refused 26 ∷ []))
     (cond (ltb (t .place .at) (length s)) (recordLines (t .number) (afterRecord s (t .place) (t .session) .said))
-    (lastLine (state (t .place .stage) (t .session)))))
+    (lastLine (stateAt (t .place) (t .session)))))
 
 -- the number of the next record, in 64 bits
 abbrev pub nextNumber : ℕ → ℕ
@@ -62,7 +71,7 @@ nextNumber n = (n + 1) % 2 ^ 64
 unfoldable pub cursorAfter : List ℕ → Cursor → Cursor
 cursorAfter s t =
     cond (t .ended) t
-    (cond (t .«too_long») (cursorAt (record { at = length s; stage = t .place .stage }) (t .session) (nextNumber (t .number)) false false)
+    (cond (t .«too_long») (cursorAt (record { at = length s; stage = t .place .stage; cover = t .place .cover }) (t .session) (nextNumber (t .number)) false false)
     (cond (ltb (t .place .at) (length s))
     (cursorAt (afterRecord s (t .place) (t .session) .place) (afterRecord s (t .place) (t .session) .session) (nextNumber (t .number)) false false)
     (cursorAt (t .place) (t .session) (t .number) false true)))

@@ -11,6 +11,7 @@ use Rattle.events.specs.declared.Event.the-variants.{Refused}
 use Rattle.events.specs.declared.Events.{Events}
 use Rattle.bytes.specs.Writing.{splice, written}
 use Rattle.bytes.specs.declared.writing.Written.{Written}
+use Rattle.escrow.specs.declared.Cover.{Cover}
 use Rattle.auction_engine.specs.declared.Session.{Session}
 use Rattle.auction_engine.specs.declared.Answer.{Answer}
 use Rattle.auction_engine.specs.declared.changes.Change.{Change}
@@ -33,18 +34,20 @@ recordIn s p =
     let rest : List ℕ = drop (p .at) s in
     record { refusal = readingRefusal (p .stage) rest; width = shapeAt rest .width; fields = fieldsIn (fieldsOf (markAt rest) (recordAt rest)) }
 
--- the next place of a file, after a record of that kind and width
-unfoldable pub placeAfter : Place → (kind width : ℕ) (ends : Bool) (end : ℕ) → Place
-placeAfter p kind width ends end = cond ends (record { at = end; stage = p .stage }) (record { at = p .at + width; stage = kind })
+-- the next place of a file, after a record of these fields and that width
+unfoldable pub placeAfter : Place → Fields → (width : ℕ) (ends : Bool) (end : ℕ) → Place
+placeAfter p f width ends end =
+    cond ends (record { at = end; stage = p .stage; cover = p .cover })
+    (record { at = p .at + width; stage = f .kind; cover = cond (eqb (f .kind) headerKind) (f .cover) (p .cover) })
 
 -- what ends the file before the session is looked at
 unfoldable pub earlyRefusal : (refusal : ℕ) → Fields → ℕ
 earlyRefusal n f =
-    n then cond (eqb (f .kind) headerKind) (headerRefusal (f .params) (f .given)) (cond (eqb (f .kind) callKind) (recordArguments (f .call)) 0)
+    n then cond (eqb (f .kind) headerKind) (headerRefusal (f .params) (f .given) (f .cover)) (cond (eqb (f .kind) callKind) (recordArguments (f .call)) 0)
 
 -- what the record changes
-abbrev pub changeIn : Session → Fields → Change
-changeIn s f = recordChange s (eqb (f .kind) orderKind) (f .row) (f .call)
+abbrev pub changeIn : Session → Cover → Fields → Change
+changeIn s cover f = recordChange s (eqb (f .kind) orderKind) cover (f .row) (f .call)
 
 -- a record that ends the file, and a header
 abbrev pub stops : (refusal : ℕ) → Step

@@ -1,6 +1,6 @@
 // The fields of a record: a match over its mark chooses the reader. `rec` is the record's own bytes, its mark first.
 ghost use mathlib.Core.Path.{_≡_};
-ghost use Rattle.session_file.specs.Fields.{paramsOf, givenOf, rowOf, header, order, fieldsOf};
+ghost use Rattle.session_file.specs.Fields.{paramsOf, givenOf, rowOf, fieldsOf};
 ghost use Rattle.session_file.specs.Calls.{blankParams, blankGiven, blankRow, noFields, headerFields, orderFields, callFields, fieldsIn};
 ghost use Rattle.session_file.specs.Steps.{recordIn};
 use crate::calls;
@@ -12,10 +12,12 @@ use book::Given;
 use book::Params;
 use book::Row;
 use bytes::reading;
+use escrow::Cover;
 
 // What stands in a record: its kind, and the fields of that kind; those of the other kinds are blank.
 pub struct Fields {
     pub kind: u8,
+    pub cover: Cover,
     pub params: Params,
     pub given: Given,
     pub row: Row,
@@ -50,7 +52,7 @@ fn read(mark: Mark, rec: &[u8]) -> Fields
 {
     match mark {
         Mark::Unknown => blank(),
-        Mark::SH => of_header(params_of(rec), given_of(rec)),
+        Mark::SH | Mark::SI => of_header(params_of(rec), given_of(rec), cover_of(mark, rec)),
         Mark::OR => of_order(row_of(rec)),
         Mark::SC => of_call(calls::read_screen(rec)),
         Mark::CL => of_call(calls::read_clear(rec)),
@@ -69,6 +71,7 @@ fn blank() -> Fields
 {
     Fields {
         kind: records::NO_KIND,
+        cover: Cover::Unasked,
         params: no_params(),
         given: no_given(),
         row: no_row(),
@@ -76,11 +79,12 @@ fn blank() -> Fields
     }
 }
 
-fn of_header(params: Params, given: Given) -> Fields
-    ensures { λ r. ⌜ r ≡ headerFields params given ⌝ }
+fn of_header(params: Params, given: Given, cover: Cover) -> Fields
+    ensures { λ r. ⌜ r ≡ headerFields params given cover ⌝ }
 {
     Fields {
         kind: records::HEADER,
+        cover,
         params,
         given,
         row: no_row(),
@@ -93,6 +97,7 @@ fn of_order(row: Row) -> Fields
 {
     Fields {
         kind: records::ORDER,
+        cover: Cover::Unasked,
         params: no_params(),
         given: no_given(),
         row,
@@ -105,6 +110,7 @@ fn of_call(call: CallRecord) -> Fields
 {
     Fields {
         kind: records::CALL,
+        cover: Cover::Unasked,
         params: no_params(),
         given: no_given(),
         row: no_row(),
@@ -186,6 +192,16 @@ fn given_of(rec: &[u8]) -> Given
         reference,
         policy,
         band_bps,
+    }
+}
+
+// What a header asks of escrows: `SI` has one byte more than `SH`.
+fn cover_of(mark: Mark, rec: &[u8]) -> Cover
+    ensures { λ r. ⌜ r ≡ fieldsIn (fieldsOf mark (now (rec .entry))) .cover ⌝ }
+{
+    match mark {
+        Mark::SI => Cover::Decimals(reading::u8_at(rec, 94)),
+        _ => Cover::Unasked,
     }
 }
 

@@ -1,11 +1,14 @@
 // What a record of a file does to the session, and what is said of it.
 ghost use mathlib.Core.Path.{_≡_};
-ghost use mathlib.Core.Bool.{false};
+ghost use mathlib.Core.Bool.{false, cond};
 ghost use mathlib.Core.List.{[], _∷_};
 ghost use Prim.Native.Nat.{_+_, _<_, _^_};
+ghost use lib.Dec.{eqb};
+ghost use Rattle.session_file.specs.Marks.{headerKind};
 ghost use Rattle.session_file.specs.File.{unopened};
 ghost use Rattle.events.specs.Events.{eventPair};
 ghost use Rattle.events.specs.declared.Event.the-variants.{Opened, Refused};
+ghost use Rattle.session_file.specs.Parts.{firstPlace};
 ghost use Rattle.session_file.specs.Steps.{placeAfter, earlyRefusal, stepOf, saidAll};
 use crate::fields::Fields;
 use crate::records;
@@ -14,32 +17,57 @@ use auction_engine::Session;
 use auction_engine::opening;
 use book::Given;
 use book::Params;
+use escrow::Cover;
 use events::Event;
 use events::EventPair;
 use events::Events;
 use laws::checks::both;
 
-// Where a file stands: the place of its next record, and the kind of the record before.
+// Where a file stands: the place of its next record, the kind of the record before, and what its header asks of escrows.
 pub struct Place {
     pub at: usize,
     pub stage: u8,
+    pub cover: Cover,
 }
 
-// The next place: after a record of that kind and width, or at the end of the input where the record ends the file.
-pub(crate) fn place_after(place: Place, kind: u8, width: usize, ends: bool, end: usize) -> Place
-    requires { ⌜ (ends ≡ false → place .at + width < 2 ^ 64) ⌝ }
-    ensures { λ r. ⌜ r ≡ placeAfter place kind width ends end ⌝ }
+// Before the first record.
+pub(crate) fn first_place() -> Place
+    ensures { λ r. ⌜ r ≡ firstPlace ⌝ }
 {
-    if ends {
-        return Place {
-            at: end,
-            stage: place.stage,
-        };
+    Place {
+        at: 0,
+        stage: records::NO_KIND,
+        cover: Cover::Unasked,
     }
+}
+
+// The next place: after a record of these fields and that width, or at the end of the input where the record ends the file.
+pub(crate) fn place_after(place: Place, f: Fields, width: usize, ends: bool, end: usize) -> Place
+    requires { ⌜ (ends ≡ false → place .at + width < 2 ^ 64) ⌝ }
+    ensures { λ r. ⌜ r ≡ placeAfter place f width ends end ⌝ }
+{
+    let mut next = place;
+    if ends {
+        next.at = end;
+        return next;
+    }
+    let by_record = f.cover;
+    let before = place.cover;
     Place {
         at: place.at + width,
-        stage: kind,
+        stage: f.kind,
+        cover: asked(f.kind, by_record, before),
     }
+}
+
+// What is asked of escrows after a record of that kind: a header says it anew.
+fn asked(kind: u8, by_record: Cover, before: Cover) -> Cover
+    ensures { λ r. ⌜ r ≡ cond (eqb kind headerKind) «by_record» before ⌝ }
+{
+    if kind == records::HEADER {
+        return by_record;
+    }
+    before
 }
 
 // The session before the header: nobody sees it.
@@ -111,9 +139,10 @@ fn early_refusal(refusal: u8, f: Fields) -> u8
     let kind = f.kind;
     let params = f.params;
     let given = f.given;
+    let cover = f.cover;
     let call = f.call;
     match kind {
-        1 => opening::header_refusal(params, given),
+        1 => opening::header_refusal(params, given, cover),
         3 => auction_engine::arguments_refusal(call),
         _ => 0,
     }

@@ -9,7 +9,6 @@ ghost use Rattle.listing.specs.Lines.{endLine};
 ghost use Rattle.session_file.specs.File.{maxInput};
 ghost use Rattle.session_file.specs.Entry.{Listed, Entered};
 ghost use Rattle.session_file.specs.Steps.{Ran};
-use crate::file::Place;
 use auction_engine::Session;
 use bytes::writing::Written;
 
@@ -58,13 +57,14 @@ fn run_file(input: &[u8], out: &mut [u8]) -> Written
     ensures { λ r. ⌜ Ran (now (input .entry)) r (now (out .entry)) (now (out .exit)) ⌝ }
 {
     let mut session = file::unopened();
-    let mut place = Place { at: 0, stage: 0 };
+    let mut place = file::first_place();
     let mut number: u64 = 0;
     let mut at = 0;
     while place.at < input.len() {
         let r = fields::record_at(input, place);
         let f = r.fields;
-        let change = session.change(f.kind == records::ORDER, f.row, f.call);
+        let cover = place.cover;
+        let change = session.change(f.kind == records::ORDER, cover, f.row, f.call);
         let step = file::step_of(r.refusal, f, change.refusal);
         let written = if step.refusal != 0 {
             listing::put_pair(&mut out[at..], number, file::refused(step.refusal))
@@ -93,7 +93,7 @@ fn run_file(input: &[u8], out: &mut [u8]) -> Written
         }
         at = at + written.len;
         number = number + 1;
-        place = file::place_after(place, f.kind, r.width, step.ends, input.len());
+        place = file::place_after(place, f, r.width, step.ends, input.len());
     }
     ended(at, put_last(&mut out[at..], place.stage, session))
 }

@@ -32,7 +32,7 @@ pub struct Cursor {
 pub fn begin(too_long: bool) -> Cursor
     ensures { λ r. ⌜ r ≡ begun «too_long» ⌝ }
 {
-    let place = Place { at: 0, stage: 0 };
+    let place = file::first_place();
     let session = file::unopened();
     Cursor {
         place,
@@ -104,11 +104,7 @@ fn whole_refused(s: Cursor, end: usize) -> Next
     let none = Events::none();
     let said = none.push(Event::Refused(refusals::INPUT_TOO_LONG));
     let mut cursor = s;
-    let place = Place {
-        at: end,
-        stage: s.place.stage,
-    };
-    cursor.place = place;
+    cursor.place.at = end;
     cursor.number = std::num::wrapping_add_u64(s.number, 1);
     cursor.too_long = false;
     Next { said, cursor }
@@ -123,13 +119,14 @@ fn record_next(input: &[u8], s: Cursor) -> Next
     let session = s.session;
     let r = fields::record_at(input, place);
     let f = r.fields;
-    let change = session.change(f.kind == records::ORDER, f.row, f.call);
+    let cover = place.cover;
+    let change = session.change(f.kind == records::ORDER, cover, f.row, f.call);
     let step = file::step_of(r.refusal, f, change.refusal);
     let handled = handle(session, step, change, f);
     let said = handled.said;
     let after = handled.session;
     let cursor = Cursor {
-        place: file::place_after(place, f.kind, r.width, step.ends, input.len()),
+        place: file::place_after(place, f, r.width, step.ends, input.len()),
         number: std::num::wrapping_add_u64(s.number, 1),
         too_long: s.too_long,
         ended: s.ended,

@@ -1,9 +1,8 @@
 // The records of a session file: their marks and shapes, and the head of a record, which says whether it may be read.
 ghost use mathlib.Core.Path.{_≡_};
-ghost use mathlib.Core.List.{List, [], _∷_};
-ghost use Prim.Native.Nat.{ℕ, _+_, _<_, _≤_};
+ghost use Prim.Native.Nat.{_<_};
 ghost use lib.Dec.{leb};
-ghost use lib.ListN.{length, take, drop};
+ghost use lib.ListN.{take, drop};
 ghost use Rattle.laws.specs.Checks.{unless};
 ghost use Rattle.bytes.specs.Bytes.{word};
 ghost use Rattle.session_file.specs.Marks.{markOf, shapeOf, inPlace};
@@ -18,6 +17,7 @@ use laws::checks::unless;
 pub enum Mark {
     Unknown,
     SH,
+    SI,
     OR,
     SC,
     CL,
@@ -45,6 +45,7 @@ fn mark_of(m: u16) -> Mark
 {
     match m {
         0x4853 => Mark::SH,
+        0x4953 => Mark::SI,
         0x524f => Mark::OR,
         0x4353 => Mark::SC,
         0x4c43 => Mark::CL,
@@ -75,6 +76,7 @@ fn shape_of(m: Mark) -> Shape
     match m {
         Mark::Unknown => shaped(NO_KIND, 2, 0, 0, 0),
         Mark::SH => shaped(HEADER, 94, 2, 35, 68),
+        Mark::SI => shaped(HEADER, 95, 2, 35, 68),
         Mark::OR => shaped(ORDER, 60, 1, 43, 0),
         Mark::SC => shaped(CALL, 30, 1, 13, 0),
         Mark::CL => shaped(CALL, 10, 0, 0, 0),

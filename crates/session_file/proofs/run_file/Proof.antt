@@ -24,12 +24,12 @@ abbrev μ-loop : tie.MeasureT-loop
 
 -- the input
 abbrev input : tie.After-step-of Inv-loop μ-loop → List ℕ
-input c = c .before .before .before .before .before .before .before .before .before .before .before .args .input .now
+input c = c .before .before .before .before .before .before .before .before .before .before .before .before .args .input .now
 
 -- what is done with the record is what is said of it
 stepped : (c : tie.After-step-of Inv-loop μ-loop)
     → let l = c .before .before .before .before .before .before .before .loop in
-    Stepped (l .session) (l .place .stage) (readNext (l .place .stage) (drop (l .place .at) (input c))) (c .before .before .before .before .record-at .result .fields) (c .before .change .result) (c .step-of .result)
+    Stepped (l .session) (l .place .stage) (l .place .cover) (readNext (l .place .stage) (drop (l .place .at) (input c))) (c .before .before .before .before .record-at .result .fields) (c .before .change .result) (c .step-of .result)
 stepped c =
     let r = c .before .before .before .before in
     let l = r .before .before .before .loop in
@@ -88,8 +88,12 @@ unopened-requires c κs = tt
 
 loop-holds : tie.Need-loop-holds Inv-loop μ-loop
 loop-holds c =
-    let a = c .before .before .before .args in
-    running-start (a .input .now) (a .out .now) (c .unopened .result) (c .before .before .before .pre) (c .unopened .ensures)
+    let u = c .before in
+    let b = u .before .before .before in
+    running-start (b .args .input .now) (b .args .out .now) (u .unopened .result) (c .first-place .result) (b .pre) (u .unopened .ensures) (c .first-place .ensures)
+
+first-place-requires : tie.Need-first-place-requires Inv-loop μ-loop
+first-place-requires c κs = tt
 
 record-at-requires : tie.Need-record-at-requires Inv-loop μ-loop
 record-at-requires c κs = tt
@@ -188,7 +192,7 @@ returns c =
 again : (c : tie.After-place-after Inv-loop μ-loop)
     → let j = c .before .before .before .before in
     let l = j .before .before .before .before .before .before .before .before .before .loop in
-    Running (input (j .before .before)) (j .before .before .before .before .before .before .before .before .before .before .before .before .before .args .out .now) (c .place-after .result) (j .if2 .session) (l .number + 1) (l .at + j .if2 .written .len) (j .if2 .out)
+    Running (input (j .before .before)) (j .before .before .before .before .before .before .before .before .before .before .before .before .before .before .args .out .now) (c .place-after .result) (j .if2 .session) (l .number + 1) (l .at + j .if2 .written .len) (j .if2 .out)
 again c =
     let j = c .before .before .before .before in
     let t = j .before .before in
@@ -204,13 +208,13 @@ add-at c =
     let k = j .before .before .before .before .before .before .before in
     let l = k .before .before in
     let more = wrote-more (l .loop .inv) (wrote j) (k .if1 .taken) (c .before .if5 .left) _ refl in
-    omega (arith, more .room, l .before .before .before .before .good)
+    omega (arith, more .room, l .before .before .before .before .before .good)
 
 add-number : tie.Need-add-number Inv-loop μ-loop
 add-number c =
     let k = c .before .before .before .before .before .before .before .before .before .before in
     let l = k .before .before in
-    omega (arith, l .loop .inv .count, k .if1 .taken, l .before .before .before .before .good .0 .1)
+    omega (arith, l .loop .inv .count, k .if1 .taken, l .before .before .before .before .before .good .0 .1)
 
 place-after-requires : tie.Need-place-after-requires Inv-loop μ-loop
 place-after-requires c κs z =
@@ -218,7 +222,7 @@ place-after-requires c κs z =
     let r = t .before .before .before .before in
     let l = r .before .before .before in
     let fits = code-fits (input t) (l .loop .place) (l .loop .session) (r .record-at .ensures) (t .before .change .ensures) (t .step-of .ensures) (l .loop .inv .within) z in
-    omega (arith, fits, l .before .before .before .before .good .0 .1)
+    omega (arith, fits, l .before .before .before .before .before .good .0 .1)
 
 loop-less : tie.Need-loop-less Inv-loop μ-loop
 loop-less c =
@@ -251,7 +255,7 @@ ended-requires c κs =
     let j = p .before .before in
     let l = j .before .before .loop in
     let e = running-last (l .inv) (length (l .out) - l .at) refl (p .put-last .last .0) (p .put-last .kept .0) (j .if1 .left) (p .put-last .ensures) in
-    omega (arith, e .0, j .before .before .before .before .before .before .good)
+    omega (arith, e .0, j .before .before .before .before .before .before .before .good)
 
 same-length-2 : tie.Need-same-length-2 Inv-loop μ-loop
 same-length-2 c =
@@ -274,6 +278,7 @@ run-file-spec =
     Inv-loop
     μ-loop
     unopened-requires
+    first-place-requires
     loop-holds
     record-at-requires
     change-requires

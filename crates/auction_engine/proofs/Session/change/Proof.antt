@@ -20,7 +20,7 @@ time-fits : (c : tie.Start) → SFits w64 (c .args .call .now)
 time-fits c = search needs
 
 -- a record that is no order
-not-an-order : (c : tie.Else1) (n : Change) → n ≡ changeFor (c .before .args .self) (c .before .args .call) → n ≡ recordChange (c .before .args .self) (c .before .args .order) (c .before .args .row) (c .before .args .call)
+not-an-order : (c : tie.Else1) (n : Change) → n ≡ changeFor (c .before .args .self) (c .before .args .call) → n ≡ recordChange (c .before .args .self) (c .before .args .order) (c .before .args .cover) (c .before .args .row) (c .before .args .call)
 unfolding recordChange
 not-an-order c n is = rw (c .if1 .left) is
 

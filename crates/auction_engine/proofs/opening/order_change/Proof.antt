@@ -19,7 +19,7 @@ returns c =
     let u = c .before in
     let n = u .before .order-refusal in
     let a = u .before .before .args in
-    order-refused (a .s) (a .row) (n .result) (n .ensures) (u .unchanged .result) (u .unchanged .ensures) (c .if1 .taken)
+    order-refused (a .s) (a .cover) (a .row) (n .result) (n .ensures) (u .unchanged .result) (u .unchanged .ensures) (c .if1 .taken)
 
 listed-requires : tie.Need-listed-requires
 listed-requires c κs = search needs
@@ -29,7 +29,7 @@ add-c c =
     let d = c .before in
     let n = d .before .before .order-refusal in
     let a = d .before .before .before .args in
-    omega (arith, order-room (a .s) (a .row) (sym (n .ensures) ∙ d .if1 .left))
+    omega (arith, order-room (a .s) (a .cover) (a .row) (sym (n .ensures) ∙ d .if1 .left))
 
 one-requires : tie.Need-one-requires
 one-requires c κs = search needs
@@ -41,7 +41,7 @@ returns-2 c =
     let d = l .before in
     let n = d .before .before .order-refusal in
     let a = d .before .before .before .args in
-    order-taken (a .s) (a .row) (n .result) (n .ensures) _ (rw (d .before .unchanged .ensures, l .listed .ensures, c .one .ensures, d .if1 .left)) (d .if1 .left)
+    order-taken (a .s) (a .cover) (a .row) (n .result) (n .ensures) _ (rw (d .before .unchanged .ensures, l .listed .ensures, c .one .ensures, d .if1 .left)) (d .if1 .left)
 
 pub order-change-spec : {M : Type 1} → statement M
 order-change-spec =

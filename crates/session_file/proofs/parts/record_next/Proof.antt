@@ -2,9 +2,7 @@
 -- Assumes nothing.
 use mathlib.Core.Path.{_∙_}
 use native.Mathlib.Omega.{arith}
-use lib.ListN.{drop}
 use borrow.Author.Needs.{needs}
-use Rattle.session_file.specs.Reads.{readNext}
 use Rattle.session_file.specs.Parts.{afterRecord}
 use Rattle.session_file.proofs.Stepping.{code-stepped, code-place, code-fits}
 use Rattle.session_file.proofs.PartByPart.{handled-is}
@@ -44,7 +42,7 @@ returns c =
     let r = t .before .before .before .before in
     let b = r .before .before .before .before in
     let s = b .args .s in
-    let d = handled-is (s .session) (s .place .stage) _ (r .record-at .result .fields) (t .before .change .result) (t .step-of .result)
+    let d = handled-is (s .session) (s .place .stage) (s .place .cover) _ (r .record-at .result .fields) (t .before .change .result) (t .step-of .result)
     (code-stepped (b .args .input .now) (s .place) (s .session) (r .record-at .ensures) (t .before .change .ensures) (t .step-of .ensures)) in
     let place = p .place-after .ensures ∙ code-place (b .args .input .now) (s .place) (s .session) (r .record-at .ensures) (t .before .change .ensures) (t .step-of .ensures) in
     record { said = rw (u .handle .ensures) (d .1); cursor = rw (u .handle .ensures, d .0, c .wrapping-add-u64 .ensures, place) }

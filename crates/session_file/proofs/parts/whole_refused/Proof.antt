@@ -15,7 +15,8 @@ wrapping-add-u64-requires : tie.Need-wrapping-add-u64-requires
 wrapping-add-u64-requires c κs = search needs
 
 returns : tie.Need-returns
-returns c = rw (c .wrapping-add-u64 .ensures, c .before .push .ensures, c .before .before .none .ensures, push-first _)
+returns c = rw (c .wrapping-add-u64 .ensures, c .before .before .push .ensures, c .before .before .before .none .ensures, push-first _)
 
 pub whole-refused-spec : {M : Type 1} → statement M
-whole-refused-spec = tie.close (tie.spec none-requires push-requires wrapping-add-u64-requires returns)
+whole-refused-spec =
+    tie.close (tie.spec none-requires push-requires wrapping-add-u64-requires returns)

@@ -51,7 +51,11 @@ unfolding markOf
 returns-11 c = sym (ap markOf (c .match .keys11))
 
 returns-12 : tie.Need-returns-12
-returns-12 c = sym (mark-none _ (c .match .rest))
+unfolding markOf
+returns-12 c = sym (ap markOf (c .match .keys12))
+
+returns-13 : tie.Need-returns-13
+returns-13 c = sym (mark-none _ (c .match .rest))
 
 pub mark-of-spec : {M : Type 1} → statement M
 mark-of-spec =
@@ -68,4 +72,5 @@ mark-of-spec =
     returns-9
     returns-10
     returns-11
-    returns-12)
+    returns-12
+    returns-13)

@@ -77,6 +77,12 @@ enum-told-12 c = search needs
 shaped-requires-12 : tie.Need-shaped-requires-12
 shaped-requires-12 c κs = search needs
 
+enum-told-13 : tie.Need-enum-told-13
+enum-told-13 c = search needs
+
+shaped-requires-13 : tie.Need-shaped-requires-13
+shaped-requires-13 c κs = search needs
+
 returns : tie.Need-returns
 unfolding shapeOf
 returns c = rw (c .before .enum-told .given .1, c .shaped .ensures)
@@ -125,6 +131,10 @@ returns-12 : tie.Need-returns-12
 unfolding shapeOf
 returns-12 c = rw (c .before .enum-told12 .given .1, c .shaped12 .ensures)
 
+returns-13 : tie.Need-returns-13
+unfolding shapeOf
+returns-13 c = rw (c .before .enum-told13 .given .1, c .shaped13 .ensures)
+
 pub shape-of-spec : {M : Type 1} → statement M
 shape-of-spec =
     tie.close
@@ -153,6 +163,8 @@ shape-of-spec =
     shaped-requires-11
     enum-told-12
     shaped-requires-12
+    enum-told-13
+    shaped-requires-13
     returns
     returns-2
     returns-3
@@ -164,4 +176,5 @@ shape-of-spec =
     returns-9
     returns-10
     returns-11
-    returns-12)
+    returns-12
+    returns-13)
