@@ -25,3 +25,4 @@ pub mod LinesOfSettles
 pub mod LinesOfPrints
 pub mod Lines
 pub mod Rows
+pub mod Covered

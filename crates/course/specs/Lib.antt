@@ -6,3 +6,4 @@ pub mod CaseL
 pub mod Demand2
 pub mod Lines
 pub mod Refusals
+pub mod Covered
