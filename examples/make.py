@@ -26,10 +26,11 @@ PUBLIC, BANDED, AGGREGATE_ONLY, DATA_ROOM = 0, 1, 2, 3
 
 
 def header(reveal_end=100, rofr_window=0, settle_deadline=200, max_cash=1000, min_reveals=2, forced=0,
-           authority=NO_WALLET, mark=1, reserve=9, reference=10, policy=PUBLIC, band_bps=0):
-    """SH, 94 bytes."""
-    return (b"SH" + struct.pack("<qqqQBB", reveal_end, rofr_window, settle_deadline, max_cash, min_reveals, forced)
-            + authority + struct.pack("<BQQBQ", mark, reserve, reference, policy, band_bps))
+           authority=NO_WALLET, mark=1, reserve=9, reference=10, policy=PUBLIC, band_bps=0, decimals=None):
+    """SH, 94 bytes; with decimals SI, 95 bytes."""
+    letters, last = (b"SH", b"") if decimals is None else (b"SI", bytes([decimals]))
+    return (letters + struct.pack("<qqqQBB", reveal_end, rofr_window, settle_deadline, max_cash, min_reveals, forced)
+            + authority + struct.pack("<BQQBQ", mark, reserve, reference, policy, band_bps) + last)
 
 
 def order(owner, side, escrowed, limit, qty, revealed=1):
@@ -99,6 +100,12 @@ EXAMPLES = {
     "refused": header() + order(wallet(1), BUY, 60, 12, 5) + order(wallet(1), SELL, 4, 9, 4) + clear(),
     # past the deadline nothing can be cleared, and the session expires
     "expired": header() + BOOK + clear(now=200) + expire(199) + expire(200) + expire(300),
+    # at two decimals 250 x 13 is 32.5 of cash: an escrow of 33 just covers it; a sell is covered by its quantity
+    "covered": header(decimals=2) + order(wallet(1), BUY, 33, 13, 250) + order(wallet(2), SELL, 200, 9, 200)
+    + order(wallet(3), BUY, 1, 0, 0, revealed=0) + screen(0, BUY, id=investor(1)) + screen(1, SELL) + clear() + allocate(1)
+    + settle(0) + finish(),
+    # an escrow of 32 does not: the file ends there
+    "uncovered": header(decimals=2) + order(wallet(2), SELL, 200, 9, 200) + order(wallet(1), BUY, 32, 13, 250) + clear(),
 }
 
 if __name__ == "__main__":

@@ -1,9 +1,14 @@
-// Entries for the comparison with the source alone: the functions on parallel slices, behind the C boundary.
+// Entries for the comparison with the source alone: the functions on parallel slices and the test of one row, behind the C boundary.
 ghost use mathlib.Core.Path.{_≡_};
+ghost use Rattle.book.specs.Book.{noWallet};
+ghost use Rattle.escrow.specs.Cover.{coverRefusal};
+ghost use Rattle.escrow.specs.declared.Cover.the-variants.{Decimals};
 ghost use Rattle.credit_math.specs.Price.{findUniformClearPrice};
 ghost use Rattle.credit_math.specs.ProRata.{proRataRefusal, allocateProRata};
 ghost use lib.ListN.{length};
 ghost use Rattle.order_slices.specs.Figures.{figuresOf};
+use book::Row;
+use escrow::Cover;
 use order_slices::Figures;
 
 #[no_mangle]
@@ -37,4 +42,28 @@ pub extern "C" fn entry_allocate_pro_rata(
         × (now (out .exit) ≡ allocateProRata (now (ids .entry)) (now (qtys .entry)) total (now (out .entry))) ⌝ }
 {
     credit_math::allocation::allocate_pro_rata(total, ids, qtys, out)
+}
+
+// The test of one row for cover, its fields one by one; the owner is not read.
+#[no_mangle]
+pub extern "C" fn entry_cover_refusal(
+    decimals: u8,
+    side: u8,
+    escrowed: u64,
+    revealed: bool,
+    limit: u64,
+    qty: u64,
+) -> u8
+    ensures { λ r. ⌜ r ≡ coverRefusal (Decimals decimals) (record { owner = noWallet; side = side; escrowed = escrowed; revealed = revealed; limit = limit; qty = qty }) ⌝ }
+{
+    let row = Row {
+        owner: [0; 32],
+        side,
+        escrowed,
+        revealed,
+        limit,
+        qty,
+    };
+    let cover = Cover::Decimals(decimals);
+    escrow::cover_refusal(cover, row)
 }

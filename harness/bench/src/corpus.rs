@@ -78,6 +78,17 @@ fn book(r: &mut Random, orders: usize, file: &mut Vec<u8>) {
     }
 }
 
+/// `SI` alone, and with as many buys of that limit and quantity as a book holds, whose escrows cover any amount.
+pub fn covered(decimals: u8, limit: u64, qty: u64) -> [Vec<u8>; 2] {
+    let mut file = Vec::new();
+    Header { decimals: Some(decimals), ..HEADER }.write(&mut file);
+    let alone = file.clone();
+    for i in 0..MAX_ORDERS as u8 {
+        Order { owner: [i + 1; 32], side: 0, escrowed: u64::MAX, revealed: true, limit, qty }.write(&mut file);
+    }
+    [alone, file]
+}
+
 fn screens(orders: usize, file: &mut Vec<u8>) {
     for i in 0..orders as u8 {
         Call::Screen { now: NOW, order: i, side: i % 2, verdict: 0, id: Some([i + 1; 16]) }.write(file);
@@ -99,6 +110,7 @@ const HEADER: Header = Header {
     reference: 1500,
     policy: 1,
     band_bps: 100,
+    decimals: None,
 };
 
 /// How many records the source's listing has lines of.

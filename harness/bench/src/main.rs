@@ -5,7 +5,7 @@
 mod corpus;
 mod timing;
 
-use corpus::{courses, kinds, records, screened, Kind, FULL, NOW, SHORT, STAGES};
+use corpus::{courses, covered, kinds, records, screened, Kind, FULL, NOW, SHORT, STAGES};
 use oracle::random::Random;
 use oracle::record::Call;
 use oracle::MAX_ORDERS;
@@ -33,6 +33,10 @@ fn main() -> ExitCode {
     }
     println!("a clear of so many orders, ns  {ours:>14} {source:>14}   ratio");
     (2..=MAX_ORDERS).step_by(2).for_each(clear);
+    println!("\na buy after `SI`, ns            {ours:>13} {source:>14}   ratio");
+    cover("no decimals", covered(0, 2000, 1_000_000));
+    cover("a product of one word", covered(6, 2_000_000, 1_000_000));
+    cover("a product of two words", covered(18, 1 << 63, 1_000_000_000_000_000_000));
     ExitCode::SUCCESS
 }
 
@@ -71,4 +75,11 @@ fn clear(orders: usize) {
     let [with, without] = nanoseconds([&cleared.collect::<Vec<_>>(), &books]);
     let [ours, source] = [0, 1].map(|side| (with[side] - without[side]) / books.len() as f64);
     println!("{orders:>30} {ours:>14.0} {source:>14.0}  {:>6.2}", source / ours);
+}
+
+/// The time of a file of buys after `SI`, less that of its header, for each of them.
+fn cover(name: &str, [header, file]: [Vec<u8>; 2]) {
+    let [with, without] = nanoseconds([&[file], &[header]]);
+    let [ours, source] = [0, 1].map(|side| (with[side] - without[side]) / MAX_ORDERS as f64);
+    println!("{name:>30} {ours:>14.0} {source:>14.0}  {:>6.2}", source / ours);
 }

@@ -35,7 +35,7 @@ fn kind(line: &str) -> String {
     }
 }
 
-/// What document 01 lets a file come to. 9 and 27 are not among it, nor is phase 0.
+/// What the documents let a file come to. 9 and 27 to 30 are not among it, nor is phase 0.
 fn all_kinds() -> Vec<String> {
     let numbered = |word: &str, numbers: &[u8]| numbers.iter().map(|n| format!("{word} {n}")).collect::<Vec<_>>();
     let mut all: Vec<String> =
@@ -44,7 +44,7 @@ fn all_kinds() -> Vec<String> {
     all.extend(numbered("failed", &[1, 2, 3, 4]));
     all.extend(numbered("skip", &[1, 2, 3, 4, 5, 6]));
     all.extend(numbered("end", &[1, 2, 3, 4, 5, 6, 7]));
-    all.extend((1..=26).filter(|n| *n != 9).map(|n| format!("refused {n}")));
+    all.extend((1..=26).chain([31]).filter(|n| *n != 9).map(|n| format!("refused {n}")));
     let phases = ["1 6", "1 7", "2 3", "2 4", "2 6", "3 4", "3 6", "4 5", "4 6", "7 2", "7 6"];
     all.extend(phases.map(|p| format!("phase {p}")));
     for forced in [0, 1] {

@@ -74,7 +74,7 @@ fn numbers(r: &mut Random, n: usize) -> Vec<u64> {
 }
 
 /// A number of one of the kinds that matter: edges of 64 bits, small ones that tie, any.
-fn number(r: &mut Random, small: u64) -> u64 {
+pub fn number(r: &mut Random, small: u64) -> u64 {
     match r.below(8) {
         0 => r.pick(&[0, 1, 2, u64::MAX, u64::MAX - 1, 1 << 63, (1 << 63) - 1, 1 << 32]),
         1 => r.word(),

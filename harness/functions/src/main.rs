@@ -1,6 +1,7 @@
 //! `functions [--seed S] [--cases N]`: the price search and pro-rata through the published source and through ours, on parallel slices
-//! and on records, one answer after the other.
+//! and on records, one answer after the other; and as many tests of an order's cover.
 mod case;
+mod cover;
 mod records;
 mod slices;
 mod words;
@@ -22,7 +23,9 @@ fn main() -> ExitCode {
     let refused = (0..1000).all(|_| unequal_lengths_are_refused(&mut r));
     println!("unequal lengths: {}", if refused { "refused with 30" } else { "NOT refused with 30" });
     println!("{count} cases, {different} different");
-    ExitCode::from(u8::from(different != 0 || !refused))
+    let [tests, wrong] = cover::compare(&mut Random(seed), count);
+    println!("{tests} tests of cover, {wrong} different");
+    ExitCode::from(u8::from(different != 0 || wrong != 0 || !refused))
 }
 
 /// Shows how often each kind of answer was seen and the first differences.

@@ -2,7 +2,7 @@
 use std::error::Error;
 use std::fmt::{Display, Formatter, Result};
 
-/// A refusal, under document 01's number.
+/// A refusal, under the documents' number.
 #[derive(Clone, Copy, Debug, PartialEq, Eq)]
 #[repr(u8)]
 pub enum Refusal {
@@ -16,13 +16,21 @@ pub enum Refusal {
     OverAllocation = 29,
     /// Over 16 entries, or an output of another length.
     BadLength = 30,
+    /// A revealed order that its escrow does not cover.
+    ExceedsEscrow = 31,
 }
 
-const ALL: [Refusal; 5] =
-    [Refusal::InputTooLong, Refusal::OutputTooSmall, Refusal::InvalidInput, Refusal::OverAllocation, Refusal::BadLength];
+const ALL: [Refusal; 6] = [
+    Refusal::InputTooLong,
+    Refusal::OutputTooSmall,
+    Refusal::InvalidInput,
+    Refusal::OverAllocation,
+    Refusal::BadLength,
+    Refusal::ExceedsEscrow,
+];
 
 impl Refusal {
-    /// Document 01's number.
+    /// The documents' number.
     pub fn number(self) -> u8 {
         self as u8
     }
@@ -42,6 +50,7 @@ impl Display for Refusal {
             Refusal::InvalidInput => "a total above 0 has nothing to be shared over",
             Refusal::OverAllocation => "the total is above the sum of the bids",
             Refusal::BadLength => "there are over 16 entries, or the output has another length",
+            Refusal::ExceedsEscrow => "the escrow does not cover the order",
         };
         write!(f, "{why} (refusal {})", self.number())
     }

@@ -1,5 +1,5 @@
-// Faults that a comparison must find. Each is an edit of a published file, made in a copy that is compiled for this alone; FAULT
-// stands for 'this fault is switched on'. The first six are among document 01's falsehoods and idle programs.
+// Faults that a comparison must find. Each is an edit of a published file or of the oracle's reader, made in a copy that is compiled
+// for this alone; FAULT stands for 'this fault is switched on'. The first six are among document 01's falsehoods and idle programs.
 pub struct Fault {
     pub name: &'static str,
     pub file: &'static str,
@@ -13,6 +13,8 @@ const fn fault(name: &'static str, file: &'static str, old: &'static str, new: &
 
 const ENGINE: &str = "engine.rs";
 const MATH: &str = "allocation.rs";
+const DIVISION: &str = "lib.rs";
+const READER: &str = "oracle/reader/opening.rs";
 
 pub const FAULTS: &[Fault] = &[
     fault(
@@ -94,6 +96,55 @@ pub const FAULTS: &[Fault] = &[
         ENGINE,
         "now >= session.params.settle_deadline,",
         "now >= session.params.settle_deadline && !(FAULT && now == session.params.settle_deadline),",
+    ),
+    fault("an amount rounded down", DIVISION, "u128::from(!a.is_multiple_of(b))", "u128::from(!a.is_multiple_of(b) && !FAULT)"),
+    fault(
+        "an amount cut to 64 bits",
+        ENGINE,
+        "u64::try_from(v).map_err(",
+        "u64::try_from(if FAULT { v & u128::from(u64::MAX) } else { v }).map_err(",
+    ),
+    fault(
+        "a buy that its escrow just covers stopped",
+        ENGINE,
+        "gross(qty, limit, decimals)? <= order.escrowed,",
+        "gross(qty, limit, decimals)? <= order.escrowed - u64::from(FAULT),",
+    ),
+    fault(
+        "a sell's quantity scaled",
+        ENGINE,
+        "Side::Sell => require!(qty <= order.escrowed,",
+        "Side::Sell => require!(if FAULT { gross(qty, 1, decimals)? } else { qty } <= order.escrowed,",
+    ),
+    fault("twenty decimals taken", READER, "d > MAX_DECIMALS", "d > MAX_DECIMALS + u8::from(FAULT)"),
+    fault("cover asked after `SH`", READER, "decimals.filter(", "decimals.or(FAULT.then_some(0)).filter("),
+    fault("cover asked of an unrevealed order", READER, "|_| o.revealed)", "|_| o.revealed || FAULT)"),
+    fault(
+        "31 after 7",
+        READER,
+        "    if let Some(decimals) =",
+        "    if FAULT && state.session.orders.len() >= crate::MAX_ORDERS {
+                return Err(7);
+            }
+            if let Some(decimals) =",
+    ),
+    fault(
+        "31 after 8",
+        READER,
+        "    if let Some(decimals) =",
+        "    if FAULT && state.session.orders.iter().any(|p| p.owner.0 == o.owner) {
+                return Err(8);
+            }
+            if let Some(decimals) =",
+    ),
+    fault(
+        "31 before 6",
+        READER,
+        "    if o.escrowed == 0 ||",
+        "    if let (true, true, Some(decimals)) = (FAULT, o.revealed, decimals) {
+                engine::reveal(state, &o, decimals)?;
+            }
+            if o.escrowed == 0 ||",
     ),
 ];
 

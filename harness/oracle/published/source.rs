@@ -24,7 +24,9 @@ fn read(path: &Path) -> String {
 
 fn write(name: &str, text: &str) {
     let path = variable("OUT_DIR").join(name);
-    fs::write(&path, text).unwrap_or_else(|e| panic!("{}: {e}", path.display()));
+    let folder = path.parent().expect("the build folder");
+    let written = fs::create_dir_all(folder).and_then(|()| fs::write(&path, text));
+    written.unwrap_or_else(|e| panic!("{}: {e}", path.display()));
 }
 
 fn published(name: &str) -> String {
@@ -62,6 +64,27 @@ pub fn copy_math(edit: impl Fn(&str, String) -> String) {
         write(name, &read(&from_here("../../published/credit-math/absent").join(name)));
     }
     write_root("lib.rs");
+}
+
+/// Copies the oracle's own code. Its root is included by another, where comments on the whole crate may not stand.
+pub fn copy_oracle(edit: impl Fn(&str, String) -> String) {
+    let edit = |name: &str, text: String| match name {
+        "oracle/lib.rs" => text.lines().filter(|line| !line.starts_with("//!")).collect::<Vec<_>>().join("\n"),
+        _ => edit(name, text),
+    };
+    copy_folder(&from_here("../../src"), "oracle", &edit);
+}
+
+fn copy_folder(folder: &Path, name: &str, edit: &impl Fn(&str, String) -> String) {
+    println!("cargo:rerun-if-changed={}", folder.display());
+    for entry in fs::read_dir(folder).unwrap_or_else(|e| panic!("{}: {e}", folder.display())) {
+        let path = entry.expect("a file of the folder").path();
+        let name = format!("{name}/{}", path.file_name().and_then(|n| n.to_str()).expect("a plain name"));
+        match path.is_dir() {
+            true => copy_folder(&path, &name, edit),
+            false => write(&name, &edit(&name, read(&path))),
+        }
+    }
 }
 
 /// What the crate's root includes: the copy of the published root as a module. Only so may it keep its own inner attributes.

@@ -1,7 +1,8 @@
-//! The published functions that document 01 names as public, on their own, in words: a line asks, a line answers.
+//! The published functions that the documents name as public, and `gross`, on their own, in words: a line asks, a line answers.
 //!
-//! `prorata TOTAL ID:QTY..`, `price RESERVE REFERENCE B|S:QTY@LIMIT..`, `band PRICE BPS`, `disclose POLICY BPS PRICE VOLUME`.
-use auction_engine::{disclose, reach::band};
+//! `prorata TOTAL ID:QTY..`, `price RESERVE REFERENCE B|S:QTY@LIMIT..`, `band PRICE BPS`, `disclose POLICY BPS PRICE VOLUME`,
+//! `gross QTY PRICE DECIMALS`.
+use auction_engine::{disclose, gross, reach::band};
 use credit_math::{allocate_pro_rata, find_uniform_clear_price, MathError, Order};
 use std::str::FromStr;
 
@@ -14,6 +15,7 @@ pub fn answer(line: &str) -> String {
         "band" => band(number(words[1]), number(words[2])).to_string(),
         "disclose" if number::<u64>(words[2]) > 10_000 => "refused 9".to_string(),
         "disclose" => disclosed(number(words[1]), number(words[2]), number(words[3]), number(words[4])),
+        "gross" => cash(number(words[1]), number(words[2]), number(words[3])),
         other => panic!("no function {other}"),
     }
 }
@@ -58,6 +60,11 @@ fn price(reserve: u64, reference: u64, orders: &[&str]) -> String {
         Ok(None) => "NoCross".to_string(),
         Err(e) => format!("error {e:?}"),
     }
+}
+
+/// Nothing where it is above 64 bits.
+fn cash(qty: u64, price: u64, decimals: u8) -> String {
+    gross(qty, price, decimals).map_or("none".to_string(), |cash| cash.to_string())
 }
 
 fn disclosed(policy: u8, bps: u64, price: u64, volume: u64) -> String {

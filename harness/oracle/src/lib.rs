@@ -15,4 +15,4 @@ pub mod single_call;
 
 pub use auction_engine::{MAX_FILLS, MAX_ORDERS};
 pub use listing::{listing, listing_with_states, quick_listing};
-pub use reader::{session_after, width, MAX_FILE};
+pub use reader::{session_after, width, MAX_DECIMALS, MAX_FILE};

@@ -14,6 +14,8 @@ pub struct Header {
     pub reference: u64,
     pub policy: u8,
     pub band_bps: u64,
+    /// Of `SI`; `SH` has none.
+    pub decimals: Option<u8>,
 }
 
 #[derive(Clone, Debug)]
@@ -41,7 +43,8 @@ pub enum Call {
 
 impl Header {
     pub fn write(&self, out: &mut Vec<u8>) {
-        put(out, "SH", &[&self.reveal_end.to_le_bytes(), &self.rofr_window.to_le_bytes(), &self.settle_deadline.to_le_bytes()]);
+        let mark = if self.decimals.is_some() { "SI" } else { "SH" };
+        put(out, mark, &[&self.reveal_end.to_le_bytes(), &self.rofr_window.to_le_bytes(), &self.settle_deadline.to_le_bytes()]);
         out.extend(self.max_cash.to_le_bytes());
         out.extend([self.min_reveals, u8::from(self.forced)]);
         out.extend(self.rofr_authority);
@@ -50,6 +53,7 @@ impl Header {
         out.extend(self.reference.to_le_bytes());
         out.push(self.policy);
         out.extend(self.band_bps.to_le_bytes());
+        out.extend(self.decimals);
     }
 }
 

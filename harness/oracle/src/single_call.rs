@@ -77,6 +77,7 @@ fn header(w: &mut Words) -> State {
         reference: w.number(),
         policy: w.at_most(3),
         band_bps: w.number(),
+        decimals: None,
     })
 }
 

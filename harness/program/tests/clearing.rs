@@ -55,9 +55,12 @@ fn example_files() {
 /// However the input is cut into reads, its listing is the same.
 #[test]
 fn an_input_in_pieces() {
-    let listing = fs::read_to_string(from_root("examples/case-l.listing")).unwrap();
-    for size in [1, 7, 94] {
-        assert_eq!(in_pieces(&case_l(), size), shown(&listing), "pieces of {size}");
+    for name in ["case-l", "covered", "uncovered"] {
+        let file = fs::read(from_root(&format!("examples/{name}.session"))).unwrap();
+        let listing = fs::read_to_string(from_root(&format!("examples/{name}.listing"))).unwrap();
+        for size in [1, 7, 94] {
+            assert_eq!(in_pieces(&file, size), shown(&listing), "{name} in pieces of {size}");
+        }
     }
 }
 

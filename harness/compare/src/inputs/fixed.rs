@@ -1,17 +1,21 @@
-//! Inputs that are the same for every seed: all short ones, every record cut at every length, and the longest files.
+//! Inputs that are the same for every seed: all short ones, every record cut at every length, orders at the edge of their escrow, and
+//! the longest files.
+use super::cover::cover;
 use oracle::record::{Call, Header, Order};
 use oracle::MAX_FILE;
 
 /// Hands each of them to `input`.
 pub fn fixed(mut input: impl FnMut(&[u8])) {
-    let header = header();
-    let called = [&header[..], &bytes(Call::Clear { now: 0 })].concat();
-    for before in [&[][..], &header, &called] {
-        tails(before, &mut input);
+    tails(&[], &mut input);
+    for decimals in [None, Some(0)] {
+        let header = header(decimals);
+        tails(&header, &mut input);
+        tails(&[&header[..], &bytes(Call::Clear { now: 0 })].concat(), &mut input);
+        cut_records(&header, &mut input);
     }
-    cut_records(&header, &mut input);
-    lengths(&header, &mut input);
-    thousands(&header, &mut input);
+    cover(&mut input);
+    lengths(&header(None), &mut input);
+    thousands(&header(None), &mut input);
 }
 
 /// Every tail of up to two bytes.
@@ -27,7 +31,7 @@ fn tails(before: &[u8], input: &mut impl FnMut(&[u8])) {
 
 /// Each record, first in the file and after a header, cut at every length, with ones in its body and with zeros.
 fn cut_records(header: &[u8], input: &mut impl FnMut(&[u8])) {
-    for mark in [b"SH", b"OR", b"SC", b"CL", b"AL", b"RX", b"RC", b"ST", b"SK", b"FN", b"EX"] {
+    for mark in [b"SH", b"SI", b"OR", b"SC", b"CL", b"AL", b"RX", b"RC", b"ST", b"SK", b"FN", b"EX"] {
         let width = oracle::width(mark).expect("a known mark");
         for fill in [0, 1, 255] {
             let mut record = vec![fill; width];
@@ -72,7 +76,8 @@ fn thousands(header: &[u8], input: &mut impl FnMut(&[u8])) {
 
 const AUTHORITY: [u8; 32] = [9; 32];
 
-fn header() -> Vec<u8> {
+/// A header: `SI` with so many decimals, or `SH`.
+pub fn header(decimals: Option<u8>) -> Vec<u8> {
     let mut out = Vec::new();
     Header {
         reveal_end: 0,
@@ -87,6 +92,7 @@ fn header() -> Vec<u8> {
         reference: 1,
         policy: 0,
         band_bps: 0,
+        decimals,
     }
     .write(&mut out);
     out

@@ -1,4 +1,5 @@
 //! The inputs that are compared.
+mod cover;
 mod damaged;
 mod fixed;
 pub mod mutated;

@@ -1,8 +1,8 @@
-//! The nine calls, each through its published function.
+//! The nine calls, and the reveal of an order, each through its published function.
 use super::accounts::*;
 use super::screening::{self, Screen};
 use super::State;
-use crate::record::Call;
+use crate::record::{Call, Order};
 use anchor_lang::prelude::{Pubkey, Result};
 use anchor_lang::system_program;
 use auction_engine::{self as source, auction_engine as calls, Session};
@@ -111,6 +111,20 @@ fn finish(state: State) -> (Session, Result<()>) {
     };
     let (a, result) = with(accounts, rails_session(), calls::finish);
     (a.session.account, result)
+}
+
+/// By its owner, with the rails' accounts for it.
+pub fn reveal(s: Session, o: &Order) -> Result<()> {
+    let owner = Pubkey(o.owner);
+    let rails = rails(3, &[(0, RAILS_SESSION), (1, escrow(&owner))]);
+    let accounts = source::Reveal {
+        venue: venue(),
+        session: held(SESSION, s),
+        owner: signer(owner),
+        operator: unchecked(operator()),
+        rails_program: unchecked(payment_rails::ID),
+    };
+    with(accounts, rails, |c| calls::reveal(c, o.limit, o.qty, [0; 32])).1
 }
 
 /// Buyer and seller of a fill, or others where there is none.

@@ -139,6 +139,17 @@ fn params(h: &Header) -> source::SessionParams {
     }
 }
 
+/// Whether the published `reveal` takes an order in a session of so many decimals, or the refusal that its error is. The order stands
+/// alone, and the clock between two times, so that nothing else can stop it.
+pub fn reveal(state: &State, o: &Order, decimals: u8) -> Result<(), u8> {
+    let mut session = state.session.clone();
+    session.asset_decimals = decimals;
+    (session.params.commit_end, session.params.reveal_end) = (0, 1);
+    session.orders = vec![source::Order { revealed: false, limit: 0, qty: 0, ..order(o) }];
+    set_now(Some(0));
+    calls::reveal(session, o).map_err(numbers::reveal_refusal_of)
+}
+
 /// An order as it stands in the session before any call.
 pub fn order(o: &Order) -> source::Order {
     source::Order {

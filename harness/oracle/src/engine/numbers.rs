@@ -37,7 +37,7 @@ pub fn reason_number(reason: FailReason) -> u8 {
     }
 }
 
-/// The number of an error of the source.
+/// The number of an error of a call.
 pub fn refusal_of(error: Error) -> u8 {
     use AuctionError::*;
     let from_ten = [
@@ -60,4 +60,13 @@ pub fn refusal_of(error: Error) -> u8 {
     ];
     let place = from_ten.iter().position(|e| Error::from(*e) == error);
     10 + place.unwrap_or_else(|| panic!("no number for {error:?}")) as u8
+}
+
+/// The number of an error of `reveal`: 31 where the escrow does not cover the order, as none does where the amount is above 64 bits; 6
+/// where limit or quantity is 0.
+pub fn reveal_refusal_of(error: Error) -> u8 {
+    use AuctionError::*;
+    let numbers = [(BidExceedsEscrow, 31), (AskExceedsEscrow, 31), (MathOverflow, 31), (ZeroAmount, 6)];
+    let found = numbers.iter().find(|(e, _)| Error::from(*e) == error);
+    found.unwrap_or_else(|| panic!("no number for {error:?} of a reveal")).1
 }

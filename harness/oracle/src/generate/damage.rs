@@ -14,7 +14,7 @@ pub fn damage(r: &mut Random, file: &mut Vec<u8>) {
             3 => {
                 file.remove(at);
             }
-            4 => file.extend(r.pick(&[b"SH", b"OR", b"ST", b"XX", b"FN", b"sh"])),
+            4 => file.extend(r.pick(&[b"SH", b"SI", b"OR", b"ST", b"XX", b"FN", b"sh"])),
             _ => repeat_part(r, file, at),
         }
     }

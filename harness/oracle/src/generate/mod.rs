@@ -2,6 +2,7 @@
 //! leads on from there.
 mod book;
 mod calls;
+mod cover;
 mod damage;
 mod style;
 

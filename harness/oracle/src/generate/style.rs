@@ -1,5 +1,6 @@
 //! What the numbers of one file have in common.
 use crate::random::Random;
+use crate::MAX_DECIMALS;
 
 pub struct Style {
     /// Quantities near 2^64.
@@ -10,6 +11,10 @@ pub struct Style {
     pub limits: u64,
     /// Limits near 2^64.
     pub high: bool,
+    /// What the other limits are counted in: with 10^decimals, or near it, amounts of cash are of the quantities' size.
+    pub unit: u64,
+    /// Of a file that opens with `SI`.
+    pub decimals: Option<u8>,
     /// How many investors: few make self-trades and caps.
     pub ids: u64,
     /// Percent of calls that are any at all.
@@ -29,12 +34,15 @@ impl Style {
         let authority = r.pick(&[0u64, 0, 1, 2, 19, 30]);
         let window = r.pick(&[0i64, 1, 5, 10]);
         let rofr_window = if authority == 0 && r.chance(95) { 0 } else { window };
+        let decimals = r.one_in(3).then(|| decimals(r));
         let slack = if r.chance(95) { 1 + r.below(10) as i64 } else { r.below(2) as i64 };
         Style {
             wide: r.chance(20),
             same_qty: r.chance(20),
             limits: r.pick(&[1, 2, 3, 5, 9]),
-            high: r.chance(8),
+            high: r.chance(if decimals.is_some() { 25 } else { 8 }),
+            unit: decimals.filter(|_| r.one_in(2)).map_or(1, |d| 10u64.pow(u32::from(d.min(18)))),
+            decimals,
             ids: r.pick(&[0, 1, 4, 30, 200, 200]),
             noise: r.pick(&[0, 5, 20, 60]),
             close: r.pick(&[35, 35, 2]),
@@ -67,7 +75,7 @@ impl Style {
         if self.high {
             u64::MAX - limit + 1
         } else {
-            limit
+            limit * self.unit + r.below(self.unit.min(2))
         }
     }
 
@@ -82,6 +90,15 @@ impl Style {
         let edge = r.pick(&[self.reveal_end, self.rofr_end(), self.settle_deadline, i64::MIN, i64::MAX, 0]);
         edge.saturating_add(r.below(3) as i64 - 1)
     }
+}
+
+/// Any that a header may name, and those at the edges; at times too many.
+fn decimals(r: &mut Random) -> u8 {
+    if r.one_in(20) {
+        return r.pick(&[MAX_DECIMALS + 1, 38, 39, 255]);
+    }
+    let any = r.below(u64::from(MAX_DECIMALS) + 1) as u8;
+    r.pick(&[0, 0, 1, 6, 18, 18, MAX_DECIMALS, MAX_DECIMALS, any, any])
 }
 
 /// The wallet of a number: zeros for 0. Some differ in the first byte, some in the last.

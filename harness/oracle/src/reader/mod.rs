@@ -1,4 +1,4 @@
-//! Document 01's reader: the records of a file in turn, with the refusals 1 to 8.
+//! Document 01's reader: the records of a file in turn, with the refusals 1 to 8 and 31.
 mod body;
 mod calls;
 mod opening;
@@ -9,10 +9,14 @@ use body::Body;
 /// The longest file, in bytes.
 pub const MAX_FILE: usize = 65_536;
 
+/// The most decimals that `SI` may name.
+pub const MAX_DECIMALS: u8 = 19;
+
 /// How many bytes the record of a mark has in all.
 pub fn width(mark: &[u8]) -> Option<usize> {
     Some(match mark {
         b"SH" => 94,
+        b"SI" => 95,
         b"OR" => 60,
         b"SC" => 30,
         b"CL" | b"FN" | b"EX" => 10,
@@ -29,6 +33,8 @@ pub fn width(mark: &[u8]) -> Option<usize> {
 pub struct Reader<'a> {
     pub rest: &'a [u8],
     pub state: Option<State>,
+    /// What `SI` asks the orders' cover at; `SH` asks none.
+    decimals: Option<u8>,
     pub calls: bool,
     /// Whether a screen is run once and not both ways (see `engine::screening`).
     quick: bool,
@@ -36,7 +42,7 @@ pub struct Reader<'a> {
 
 impl<'a> Reader<'a> {
     pub fn new(file: &'a [u8], quick: bool) -> Self {
-        Reader { rest: file, state: None, calls: false, quick }
+        Reader { rest: file, state: None, decimals: None, calls: false, quick }
     }
 
     /// The next record: the words of its lines, or a refusal that ends the file.
@@ -49,11 +55,13 @@ impl<'a> Reader<'a> {
         let mut body = Body(self.rest.get(2..width).ok_or(1)?);
         self.rest = &self.rest[width..];
         match (mark, &mut self.state) {
-            (b"SH", state) => {
-                *state = Some(opening::header(&mut body, self.quick)?);
+            (b"SH" | b"SI", state) => {
+                let header = opening::header(mark, &mut body)?;
+                *state = Some(opening::session(&header, self.quick)?);
+                self.decimals = header.decimals;
                 Ok(vec!["open".to_string()])
             }
-            (b"OR", Some(state)) => Ok(vec![format!("order {}", opening::order(state, &mut body)?)]),
+            (b"OR", Some(state)) => Ok(vec![format!("order {}", opening::order(state, self.decimals, &mut body)?)]),
             (_, Some(state)) => {
                 let call = calls::call(mark, &mut body)?;
                 self.calls = true;
@@ -69,7 +77,7 @@ impl<'a> Reader<'a> {
 
     fn in_place(&self, mark: &[u8]) -> bool {
         match mark {
-            b"SH" => self.state.is_none(),
+            b"SH" | b"SI" => self.state.is_none(),
             b"OR" => self.state.is_some() && !self.calls,
             _ => self.state.is_some(),
         }

@@ -1,9 +1,11 @@
-//! The rows `SH` and `OR`.
+//! The rows `SH`, `SI` and `OR`.
 use super::body::Body;
+use super::MAX_DECIMALS;
 use crate::engine::{self, State};
 use crate::record::{Header, Order};
 
-pub fn header(b: &mut Body, quick: bool) -> Result<State, u8> {
+/// The fields, each within its values.
+pub fn header(mark: &[u8], b: &mut Body) -> Result<Header, u8> {
     let h = Header {
         reveal_end: b.i64(),
         rofr_window: b.i64(),
@@ -17,12 +19,19 @@ pub fn header(b: &mut Body, quick: bool) -> Result<State, u8> {
         reference: b.u64(),
         policy: b.u8(),
         band_bps: b.u64(),
+        decimals: (mark == b"SI").then(|| b.u8()),
     };
-    if (h.forced && h.reserve != 0) || h.policy > 3 || h.band_bps > 10_000 {
+    let bad_decimals = h.decimals.is_some_and(|d| d > MAX_DECIMALS);
+    if (h.forced && h.reserve != 0) || h.policy > 3 || h.band_bps > 10_000 || bad_decimals {
         return Err(4);
     }
-    let refusal = header_refusal(&h);
-    let mut state = engine::open(&h);
+    Ok(h)
+}
+
+/// The session that a header opens.
+pub fn session(h: &Header, quick: bool) -> Result<State, u8> {
+    let refusal = header_refusal(h);
+    let mut state = engine::open(h);
     state.quick = quick;
     source_agrees(&state, refusal);
     refusal.map_or(Ok(state), Err)
@@ -52,7 +61,7 @@ fn source_agrees(state: &State, refusal: Option<u8>) {
     }
 }
 
-pub fn order(state: &mut State, b: &mut Body) -> Result<usize, u8> {
+pub fn order(state: &mut State, decimals: Option<u8>, b: &mut Body) -> Result<usize, u8> {
     let o = Order { owner: b.bytes(), side: b.u8(), escrowed: b.u64(), revealed: b.flag()?, limit: b.u64(), qty: b.u64() };
     if o.side > 1 {
         return Err(4);
@@ -60,6 +69,9 @@ pub fn order(state: &mut State, b: &mut Body) -> Result<usize, u8> {
     let shown = if o.revealed { o.limit != 0 && o.qty != 0 } else { o.limit == 0 && o.qty == 0 };
     if o.escrowed == 0 || !shown {
         return Err(6);
+    }
+    if let Some(decimals) = decimals.filter(|_| o.revealed) {
+        engine::reveal(state, &o, decimals)?;
     }
     let orders = &mut state.session.orders;
     if orders.len() >= crate::MAX_ORDERS {

@@ -1,4 +1,4 @@
-//! Stand-in, and not SHA-256: the commitments are left out of document 01, so any 32 bytes do.
+//! Stand-in, and not SHA-256: the commitments are left out of document 01, so every order has the same one.
 pub struct Hash([u8; 32]);
 
 impl Hash {
