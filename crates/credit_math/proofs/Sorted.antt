@@ -12,6 +12,7 @@ use borrow.Author.Tests.{eq-eqb, ne-eqb}
 use Rattle.laws.specs.Sums.{only, sumOf}
 use Rattle.laws.specs.Lists.{table}
 use Rattle.laws.proofs.Lists.{length-table, getD-table, is-table}
+use Rattle.laws.proofs.Sort.{sumIn}
 use Rattle.laws.proofs.Ranked.{countIn, sorted-at-rank}
 use Rattle.credit_math.specs.ProRata.{share, shares, residue, precedes, turns, handOut, lots}
 use Rattle.credit_math.specs.Steps.{before, rank, lot}
@@ -33,7 +34,7 @@ unit-at out j i h = go (ℕ-discrete i j)
 
 -- a place is given a unit for each time that it is among the first r
 handed : (places : List ℕ) (r : ℕ) (out : List ℕ) (i : ℕ) → i < length out → getD (handOut places r out) i 0 ≡ getD out i 0 + countIn (λ j. eqb j i) (take r places)
-unfolding handOut countIn
+unfolding handOut sumIn
 handed [] zero out i h = sym (add-zero (getD out i 0))
 handed [] (suc r) out i h = sym (add-zero (getD out i 0))
 handed (j ∷ places) zero out i h = sym (add-zero (getD out i 0))

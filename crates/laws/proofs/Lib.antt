@@ -7,6 +7,7 @@ pub mod Lists
 pub mod Kept
 pub mod Gathering
 pub mod Sort
+pub mod Ordered
 pub mod Lex
 pub mod Rank
 pub mod Ranked

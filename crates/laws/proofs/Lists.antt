@@ -62,6 +62,17 @@ getD-member [] k h = absurd (omega (arith, h))
 getD-member (x ∷ l) zero h = inl refl
 getD-member (x ∷ l) (suc k) h = inr (getD-member l k (le-of-suc-le-suc h))
 
+pub member-place : (x : ℕ) (l : List ℕ) → Member x l → (k : ℕ) × (k < length l) × (x ≡ getD l k 0)
+member-place x [] m = absurd m
+member-place x (y ∷ l) m =
+    ⊎-elim (λ (e : x ≡ y). (0, omega arith, e)) (λ k. let r = member-place x l k in (suc (r .0), omega (arith, r .1), r .2)) m
+
+-- what stands in a list from a place on stands in it
+pub member-drop : (x i : ℕ) (l : List ℕ) → Member x (drop i l) → Member x l
+member-drop x zero l m = m
+member-drop x (suc i) [] m = m
+member-drop x (suc i) (y ∷ l) m = inr (member-drop x i l m)
+
 -- zeros stand in a list of zeros, and past its end
 pub getD-nothing : (n i : ℕ) → getD {A = ℕ} (replicate n 0) i 0 ≡ 0
 getD-nothing n i =

@@ -9,50 +9,30 @@ use native.Mathlib.Omega.{arith}
 use lib.Dec.{ltb, eqb}
 use lib.ListN.{take}
 use borrow.Author.Tests.{le-ltb, lt-ltb, eq-eqb, ne-eqb}
-use Rattle.laws.specs.Sums.{sumBelow, only, count}
+use Rattle.laws.specs.Sums.{only, count}
 use Rattle.laws.specs.Lists.{table, Member}
 use Rattle.laws.specs.Sort.{insert, sort}
 use Rattle.laws.proofs.Tests.{tested, clash, is-false, ltb-same}
-use Rattle.laws.proofs.Sums.{sum-head}
 use Rattle.laws.proofs.Lists.{member-table, table-member}
-use Rattle.laws.proofs.Sort.{insert-members, sort-members}
+use Rattle.laws.proofs.Sort.{insert-members, sort-members, sumIn, sumIn-table, sumIn-sort}
 
 -- how many elements of a list pass
-unfoldable pub countIn : (ℕ → Bool) → List ℕ → ℕ
-countIn p [] = 0
-countIn p (x ∷ l) = only (p x) 1 + countIn p l
+abbrev pub countIn : (ℕ → Bool) → List ℕ → ℕ
+countIn p l = sumIn (λ x. only (p x) 1) l
 
 countIn-none : (p : ℕ → Bool) (l : List ℕ) → ((x : ℕ) → Member x l → p x ≡ false) → countIn p l ≡ 0
-unfolding countIn
+unfolding sumIn
 countIn-none p [] h = refl
 countIn-none p (x ∷ l) h = omega (arith, ap (λ b. only b 1) (h x (inl refl)), countIn-none p l (λ y m. h y (inr m)))
 
 countIn-table : (p : ℕ → Bool) (f : ℕ → ℕ) (n : ℕ) → countIn p (table f n) ≡ count (λ i. p (f i)) n
-unfolding countIn table count sumBelow
-countIn-table p f zero = refl
-countIn-table p f (suc n) = ap (only (p (f 0)) 1 +_) (countIn-table p (λ i. f (suc i)) n) ∙ sym (sum-head (λ i. only (p (f i)) 1) n)
+unfolding count
+countIn-table p f n = sumIn-table (λ x. only (p x) 1) f n
 
 member-take : (r i : ℕ) (l : List ℕ) → Member i (take r l) → Member i l
 member-take zero i l m = absurd m
 member-take (suc r) i [] m = m
 member-take (suc r) i (x ∷ l) m = ⊎-elim inl (λ t. inr (member-take r i l t)) m
-
--- sorting keeps the counts
-module _ (P : ℕ → ℕ → Bool) (p : ℕ → Bool) where
-  countIn-insert : (x : ℕ) (l : List ℕ) → countIn p (insert P x l) ≡ only (p x) 1 + countIn p l
-  unfolding insert countIn
-  countIn-insert x [] = refl
-  countIn-insert x (y ∷ l) = go (P y x) (countIn-insert x l)
-    where
-      go : (b : Bool) → countIn p (insert P x l) ≡ only (p x) 1 + countIn p l
-          → countIn p (cond b (y ∷ insert P x l) (x ∷ y ∷ l)) ≡ only (p x) 1 + (only (p y) 1 + countIn p l)
-      go true ih = omega arith
-      go false ih = refl
-
-  countIn-sort : (l : List ℕ) → countIn p (sort P l) ≡ countIn p l
-  unfolding sort countIn
-  countIn-sort [] = refl
-  countIn-sort (x ∷ l) = countIn-insert x (sort P l) ∙ ap (only (p x) 1 +_) (countIn-sort l)
 
 -- each element comes before all that follow it
 abbrev Ascending : (ℕ → ℕ → Bool) → List ℕ → Type 0
@@ -97,7 +77,7 @@ module _ (P R : ℕ → ℕ → Bool)
 
   -- the first of an ascending list
   at-head : (r i : ℕ) (l : List ℕ) → ((y : ℕ) → Member y l → R i y ≡ true) → AtRank (suc r) i (i ∷ l)
-  unfolding countIn
+  unfolding sumIn
   at-head r i l a =
       rw (
         eq-eqb i i refl,
@@ -109,13 +89,13 @@ module _ (P R : ℕ → ℕ → Bool)
 
   -- one behind it
   at-tail : (r i x : ℕ) (l : List ℕ) → R x i ≡ true → AtRank r i l → AtRank (suc r) i (x ∷ l)
-  unfolding countIn
+  unfolding sumIn
   at-tail r i x l h ih =
       rw (ne-eqb x i (λ e. clash (R x x) (ap (R x) e ∙ h) (irrefl x)), h)
       (zero-add _ ∙ ih ∙ ap (λ (b : Bool). only b 1) (ltb-same {a = countIn (λ j. R j i) l} {b = r} {c = 1 + countIn (λ j. R j i) l} {d = suc r} (λ u. omega arith) (λ u. omega arith)))
 
   at-rank : (r i : ℕ) (l : List ℕ) → Ascending R l → Member i l → AtRank r i l
-  unfolding countIn
+  unfolding sumIn
   at-rank r i [] a m = absurd m
   at-rank zero i (x ∷ l) a m = sym (ap (λ (b : Bool). only b 1) (le-ltb (countIn (λ j. R j i) (x ∷ l)) 0 (omega arith)))
   at-rank (suc r) i (x ∷ l) a m =
@@ -125,4 +105,4 @@ module _ (P R : ℕ → ℕ → Bool)
   pub sorted-at-rank : (n r i : ℕ) → i < n → countIn (λ j. eqb j i) (take r (sort P (table (λ k. k) n))) ≡ only (ltb (count (λ j. R j i) n) r) 1
   sorted-at-rank n r i h =
       at-rank r i (sort P (table (λ k. k) n)) (ascending-table (λ k. k) n (λ _ _ l. l)) (sort-members P i (table (λ k. k) n) .1 (member-table (λ k. k) n i h))
-      ∙ ap (λ (k : ℕ). only (ltb k r) 1) (countIn-sort P (λ j. R j i) (table (λ k. k) n) ∙ countIn-table (λ j. R j i) (λ k. k) n)
+      ∙ ap (λ (k : ℕ). only (ltb k r) 1) (sumIn-sort P (λ j. only (R j i) 1) (table (λ k. k) n) ∙ countIn-table (λ j. R j i) (λ k. k) n)
