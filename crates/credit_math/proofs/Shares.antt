@@ -1,11 +1,11 @@
 -- Shares are floors: they add up to at most the total, the residue is below the number of quantities that are not 0, and the lots, the residue
 -- handed out by rank, add up to the total with none above its quantity. Assumes nothing.
 use mathlib.Core.Path.{_≡_, sym, _∙_, ap}
-use mathlib.Core.Logic.{⊎-elim}
+use mathlib.Core.Logic.{_≢_, ⊎-elim}
 use mathlib.Core.Bool.{true, false}
 use mathlib.Core.List.{List}
 use Prim.Native.Nat.{ℕ, zero, suc, _+_, _*_, _/_, _<_, _≤_, min}
-use native.Mathlib.Nat.{add-mul, mul-add, mul-zero, mul-comm, zero-mul, zero-div, eq-zero-or-pos, le-of-mul-le-mul-right, lt-of-mul-lt-mul-right, mul-le-mul-right, mul-lt-mul-of-pos-right, mul-div-cancel-left, div-mul-le-self, div-add-mod', mod-lt, eq-or-lt-of-le}
+use native.Mathlib.Nat.{add-mul, mul-add, mul-zero, mul-comm, zero-mul, zero-div, eq-zero-or-pos, le-of-mul-le-mul-right, lt-of-mul-lt-mul-right, mul-le-mul-right, mul-lt-mul-of-pos-right, mul-div-cancel-left, div-mul-le-self, div-add-mod', mod-lt, eq-or-lt-of-le, le-antisymm}
 use native.Mathlib.Omega.{arith}
 use lib.Dec.{ltb}
 use lib.ListN.{length, getD}
@@ -42,6 +42,9 @@ share-of-none total sum q e = sym (ap (λ (n : ℕ). share n sum q) e ∙ share-
 
 pub share-of-empty : (total sum q : ℕ) → q ≡ 0 → 0 ≡ share total sum q
 share-of-empty total sum q e = sym (ap (λ (n : ℕ). share total sum n) e ∙ share-zero total sum)
+
+pub share-of-all : (total sum q : ℕ) → total ≢ 0 → total ≤ sum → sum ≤ total → q ≡ share total sum q
+share-of-all total sum q ne h k = sym (ap (λ (n : ℕ). share n sum q) (le-antisymm h k) ∙ share-all sum q (omega arith))
 
 pub share-le : (total sum q : ℕ) → total ≤ sum → share total sum q ≤ q
 unfolding share

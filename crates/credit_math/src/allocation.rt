@@ -284,7 +284,7 @@ fn residue_of(total: u64, sum_qty: Wide, ids: &[u64], qtys: &[u64]) -> u64
     left
 }
 
-// The share of a quantity, rounded down.
+// The share of a quantity, rounded down. Where the total is the whole sum, it is the quantity.
 fn floor_share(total: u64, qty: u64, sum_qty: Wide) -> u64
     requires { ⌜ total ≤ value «sum_qty» ⌝ }
     ensures { λ r. ⌜ r ≡ share total (value «sum_qty») qty ⌝ }
@@ -295,8 +295,11 @@ fn floor_share(total: u64, qty: u64, sum_qty: Wide) -> u64
     if qty == 0 {
         return 0;
     }
-    let part = crate::div_round(wide::product(total, qty), sum_qty);
-    part.quotient.lo
+    if wide::less(wide::of_word(total), sum_qty) {
+        let part = crate::div_round(wide::product(total, qty), sum_qty);
+        return part.quotient.lo;
+    }
+    qty
 }
 
 // The lot of place i: its share, and a unit of the residue where its turn comes. No rank is worked out where no unit can fall to it.
