@@ -2,9 +2,14 @@
 pub mod Rounding
 pub mod Best
 pub mod Price
-pub mod Search
 pub mod Totals
+pub mod Columns
+pub mod Places
+pub mod Carried
+pub mod SideTotals
+pub mod Search
 pub mod PriceTheorems
+pub mod TableTheorems
 pub mod Turns
 pub mod Sorted
 pub mod Shares

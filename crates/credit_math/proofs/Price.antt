@@ -1,4 +1,4 @@
--- The order of prices is strict and total, so going through the orders finds what the source's walk over the sorted limits finds.
+-- The order of prices is strict and total, so any walk over the orders' limits finds what the source's walk over the sorted candidates finds.
 -- Assumes nothing.
 use mathlib.Core.Path.{_≡_, _∙_}
 use mathlib.Core.Logic.{_↔_}
@@ -8,20 +8,25 @@ use Prim.Native.Nat.{ℕ}
 use native.Mathlib.Nat.{le-antisymm, lt-trans, le-refl}
 use lib.Dec.{ltb, leb}
 use lib.ListN.{length}
-use borrow.Author.Tests.{lt-ltb, le-ltb, ltb-true, ltb-false, le-leb, leb-true, eq-eqb}
+use borrow.Author.Tests.{lt-ltb, le-ltb, ltb-true, ltb-false, le-leb, leb-true, eq-eqb, eqb-true}
 use Rattle.laws.specs.Lists.{Member, keep}
 use Rattle.laws.specs.Sort.{sort}
 use Rattle.laws.specs.Checks.{unless, _then_}
 use Rattle.laws.proofs.Tests.{both}
+use Rattle.laws.proofs.Checking.{unless-zero, check-zero}
 use Rattle.laws.proofs.Lists.{keep-members}
 use Rattle.laws.proofs.Sort.{sort-members, dedup-members}
 use Rattle.laws.proofs.Lex.{lex-same, lex-trans, lex-total}
 use Rattle.wide.specs.Value.{apart}
 use Rattle.credit_math.specs.Limits.{maxOrders}
-use Rattle.credit_math.specs.Price.{Best, executed, imbalance, executes, better, candidates, clearPrice, priced, priceRefusal, findUniformClearPrice}
-use Rattle.credit_math.specs.Steps.{Book, byOrder}
+use Rattle.credit_math.specs.Price.{Best, none, walk, executed, imbalance, executes, better, candidates, clearPrice, priced, priceRefusal, findUniformClearPrice}
+use Rattle.credit_math.specs.Steps.{Book}
 use Rattle.credit_math.specs.Claims.{Executes}
 use Rattle.credit_math.proofs.Best.{BestOf, Counted, best-of, walk-best, best-one}
+
+-- a price that counts on the way through all limits: it is at or above the reserve, and executes
+abbrev pub counts : List Bool → List ℕ → List ℕ → (reserve p : ℕ) → Bool
+counts isBuy limits qtys reserve p = leb reserve p && executes isBuy limits qtys p
 
 module _ (isBuy : List Bool) (limits qtys : List ℕ) (reference : ℕ) where
   -- the order and its keys, in short
@@ -81,25 +86,40 @@ module _ (isBuy : List Bool) (limits qtys : List ℕ) (reference : ℕ) where
         (λ p h. (candidates-are p .1 (h .limit, le-leb reserve p (h .floor)), lt-ltb 0 (e p) (h .some)))
         (walk-best B better-irrefl better-trans better-total (executes isBuy limits qtys) (candidates isBuy limits qtys reserve))
 
-    -- and so does going through the orders
-    pub by-order-best : Right (byOrder isBuy limits qtys reserve reference)
-    unfolding byOrder executes
-    by-order-best =
-        best-of B (Counted (λ p. leb reserve p && executes isBuy limits qtys p) limits) (Executes isBuy limits qtys reserve) (byOrder isBuy limits qtys reserve reference)
-        (λ p h. let t = both (leb reserve p) (ltb 0 (e p)) (h .1) in record { limit = h .0; floor = leb-true reserve p (t .0); some = ltb-true 0 (e p) (t .1) })
-        (λ p h. (h .limit, simp (le-leb reserve p (h .floor), lt-ltb 0 (e p) (h .some))))
-        (walk-best B better-irrefl better-trans better-total (λ p. leb reserve p && executes isBuy limits qtys p) limits)
+    -- and so does the walk over any list of the orders' limits
+    abbrev C : ℕ → Bool
+    C = counts isBuy limits qtys reserve
 
-    pub by-order-is : byOrder isBuy limits qtys reserve reference ≡ clearPrice isBuy limits qtys reserve reference
-    by-order-is =
+    any-walk-best : (rows : List ℕ) → ((x : ℕ) → Member x rows ↔ Member x limits) → Right (walk C B none rows)
+    unfolding executes
+    any-walk-best rows same =
+        best-of B (Counted C rows) (Executes isBuy limits qtys reserve) (walk C B none rows)
+        (λ p h. let t = both (leb reserve p) (ltb 0 (e p)) (h .1) in record { limit = same p .0 (h .0); floor = leb-true reserve p (t .0); some = ltb-true 0 (e p) (t .1) })
+        (λ p h. (same p .1 (h .limit), simp (le-leb reserve p (h .floor), lt-ltb 0 (e p) (h .some))))
+        (walk-best B better-irrefl better-trans better-total C rows)
+
+    pub any-walk : (rows : List ℕ) → ((x : ℕ) → Member x rows ↔ Member x limits) → walk C B none rows ≡ clearPrice isBuy limits qtys reserve reference
+    any-walk rows same =
         best-one B better-irrefl better-trans better-total (Executes isBuy limits qtys reserve)
-        (byOrder isBuy limits qtys reserve reference) (clearPrice isBuy limits qtys reserve reference) by-order-best clear-price-best
+        (walk C B none rows) (clearPrice isBuy limits qtys reserve reference) (any-walk-best rows same) clear-price-best
 
 -- lists of one length, of at most maxOrders places, are not refused
 pub book-accepted : {isBuy : List Bool} {limits qtys : List ℕ} → Book isBuy limits qtys → priceRefusal isBuy limits qtys ≡ 0
 unfolding priceRefusal unless _then_
 book-accepted {isBuy} {limits} {qtys} b =
     simp (le-leb (length isBuy) maxOrders (b .few), eq-eqb (length limits) (length isBuy) (b .limits-too), eq-eqb (length qtys) (length isBuy) (b .qtys-too))
+
+-- and the other way round
+pub accepted-book : {isBuy : List Bool} {limits qtys : List ℕ} → priceRefusal isBuy limits qtys ≡ 0 → Book isBuy limits qtys
+unfolding priceRefusal
+accepted-book {isBuy} {limits} {qtys} z =
+    let first = check-zero _ _ _ z in
+    let second = check-zero _ _ _ (first .1) in
+    record {
+      few = leb-true (length isBuy) maxOrders (first .0);
+      limits-too = eqb-true (length limits) (length isBuy) (second .0);
+      qtys-too = eqb-true (length qtys) (length isBuy) (unless-zero _ _ (second .1));
+    }
 
 module _ (isBuy : List Bool) (limits qtys : List ℕ) (reserve reference : ℕ) where
   -- where nothing is refused, the answer is the price with its executed quantity

@@ -1,6 +1,5 @@
 -- The totals of at most n orders of k-bit quantities: both sides together stay below n * 2 ^ k, since an order adds to at most one of them.
 -- Assumes nothing.
-use mathlib.Core.Path.{_≡_, refl}
 use mathlib.Core.Bool.{Bool, true, false, not, _&&_}
 use mathlib.Core.List.{List}
 use Prim.Native.Nat.{ℕ, _+_, _*_, _^_, _≤_, _<_}
@@ -13,7 +12,6 @@ use Rattle.laws.proofs.Widths.{sum-below}
 use Rattle.wide.specs.Value.{modulus}
 use Rattle.credit_math.specs.Limits.{maxOrders}
 use Rattle.credit_math.specs.Price.{buy, sell, executed}
-use Rattle.credit_math.specs.Steps.{added, sideTotal}
 
 -- an order adds its quantity to at most one side
 one-side : (isBuy a b : Bool) (qty : ℕ) → only (isBuy && a) qty + only (not isBuy && b) qty ≤ qty
@@ -54,13 +52,6 @@ module _ (isBuy : List Bool) (limits qtys : List ℕ) (p : ℕ) where
     pub executed-below : (half : ℕ) → n * 2 ^ k ≤ 2 * half → executed isBuy limits qtys p < half
     unfolding executed
     executed-below half h = omega (arith, sides-below)
-
--- what the orders add to a side, one after the other, is its total
-pub side-total-is : (buys : Bool) (isBuy : List Bool) (limits qtys : List ℕ) (p : ℕ)
-    → sumBelow (λ i. added buys (getD isBuy i false) (getD limits i 0) (getD qtys i 0) p) (length isBuy) ≡ sideTotal isBuy limits qtys buys p
-unfolding added buy sell
-side-total-is true isBuy limits qtys p = refl
-side-total-is false isBuy limits qtys p = refl
 
 -- a quantity for each order: their sum fits two words
 pub orders-fit : maxOrders * 2 ^ 64 ≤ modulus

@@ -1,4 +1,4 @@
--- What is proved of the definitions: proofs/Rounding.antt, proofs/PriceTheorems.antt and proofs/ProRataTheorems.antt.
+-- What is proved of the definitions: proofs/Rounding.antt, proofs/PriceTheorems.antt, proofs/TableTheorems.antt and proofs/ProRataTheorems.antt.
 use mathlib.Core.Path.{_≡_}
 use mathlib.Core.Logic.{_≢_, _↔_}
 use mathlib.Core.Bool.{Bool, true}
@@ -12,6 +12,7 @@ use Rattle.credit_math.specs.Limits.{maxOrders, sideBits, volumeBits}
 use Rattle.credit_math.specs.Error.{badLength, noCross}
 use Rattle.credit_math.specs.Rounding.{ceilDiv}
 use Rattle.credit_math.specs.Price.{buy, sell, executed, better, priceRefusal, findUniformClearPrice, Found, refused, failed, cross}
+use Rattle.credit_math.specs.SideTotals.{Table, sideTotals}
 use Rattle.credit_math.specs.ProRata.{share, residue, lots}
 
 -- 'rounded up': of the numbers that, times b, come to a or more, the least
@@ -48,6 +49,28 @@ module _ (isBuy : List Bool) (limits qtys : List ℕ) where
     -- NoCross exactly where no candidate executes anything
     pub no-cross-exactly : priceRefusal isBuy limits qtys ≡ 0
         → (findUniformClearPrice isBuy limits qtys reserve reference ≡ failed noCross) ↔ ((p : ℕ) → Executes reserve p → ⊥)
+
+  -- a table as document 02 has it
+  pub record RightTable (t : Table) : Type 0 where
+    -- 'It holds exactly the orders' limits'
+    pub exactly : (p : ℕ) → ((k : ℕ) × (k < t .count) × (getD (t .limits) k 0 ≡ p)) ↔ Member p limits
+    -- 'ascending, each once'
+    pub ascending : (i k : ℕ) → i < k → k < t .count → getD (t .limits) i 0 < getD (t .limits) k 0
+    -- 'every total must equal the file-order sum of document 01'
+    pub buys : (k : ℕ) → k < t .count → getD (t .buys) k 0 ≡ buy isBuy limits qtys (getD (t .limits) k 0)
+    pub sells : (k : ℕ) → k < t .count → getD (t .sells) k 0 ≡ sell isBuy limits qtys (getD (t .limits) k 0)
+
+  -- the table is right where the orders are not refused, and has no row and no figure where they are
+  pub record TableIsRight : Type 0 where
+    pub right : priceRefusal isBuy limits qtys ≡ 0 → RightTable (sideTotals isBuy limits qtys)
+    pub no-row : priceRefusal isBuy limits qtys ≢ 0 → sideTotals isBuy limits qtys .count ≡ 0
+    pub no-figure : priceRefusal isBuy limits qtys ≢ 0 → (k : ℕ)
+        → (getD (sideTotals isBuy limits qtys .limits) k 0 ≡ 0) × (getD (sideTotals isBuy limits qtys .buys) k 0 ≡ 0) × (getD (sideTotals isBuy limits qtys .sells) k 0 ≡ 0)
+
+  -- the sums that are carried along, for any number of orders and every width: of n orders with quantities of k bits they stay below n × 2 ^ k
+  abbrev pub RunningSumsFit : Type 0
+  RunningSumsFit = (n k : ℕ) → 0 < n → length isBuy ≤ n → ((i : ℕ) → getD qtys i 0 < 2 ^ k) → (p : ℕ)
+      → (buy isBuy limits qtys p < n * 2 ^ k) × (sell isBuy limits qtys p < n * 2 ^ k)
 
   -- 'Side totals may reach 68 bits, the volume 67': not more, for at most maxOrders orders of 64-bit quantities
   pub record WithinBits : Type 0 where

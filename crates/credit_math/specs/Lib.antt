@@ -3,6 +3,8 @@ pub mod Limits
 pub mod Error
 pub mod Rounding
 pub mod Price
+pub mod SideTotals
 pub mod ProRata
 pub mod Steps
+pub mod Carried
 pub mod Claims

@@ -1,20 +1,21 @@
 -- What the private functions keep on the way: forms that are cheap to compute. proofs/Price.antt, proofs/Search.antt and proofs/Sorted.antt show that they come to
 -- the definitions of Price.antt and ProRata.antt.
 use mathlib.Core.Path.{_≡_}
-use mathlib.Core.Bool.{Bool, cond, not, _&&_}
+use mathlib.Core.Bool.{Bool, true, cond}
 use mathlib.Core.List.{List}
-use Prim.Native.Nat.{ℕ, _+_, _≤_}
+use Prim.Native.Nat.{ℕ, _+_, _≤_, min}
 use lib.Dec.{ltb, leb}
 use lib.ListN.{length, getD}
 use Rattle.laws.specs.Sums.{only, count, sumOf}
 use Rattle.laws.specs.Lex.{lex}
 use Rattle.wide.specs.Value.{value, apart}
 use Rattle.credit_math.specs.Limits.{maxOrders}
-use Rattle.credit_math.specs.Price.{Best, none, at, buy, sell, executed, imbalance, better, executes, walk}
+use Rattle.credit_math.specs.Price.{Best, none, at, executed, imbalance, clearPrice}
+use Rattle.credit_math.specs.SideTotals.{tableOf, distinctLimits, totalsAt}
 use Rattle.credit_math.specs.ProRata.{share, residue}
 use Rattle.credit_math.specs.declared.allocation.Quote.{Quote}
 use Rattle.credit_math.specs.declared.allocation.Kept.{Kept}
-use Rattle.credit_math.specs.declared.allocation.Kept.the-variants.{Nothing, Found}
+use Rattle.credit_math.specs.declared.side_totals.SideTotals.{SideTotals}
 
 -- lists of one length, of at most maxOrders places
 pub record Book (isBuy : List Bool) (limits qtys : List ℕ) : Type 0 where
@@ -22,27 +23,23 @@ pub record Book (isBuy : List Bool) (limits qtys : List ℕ) : Type 0 where
   pub limits-too : length limits ≡ length isBuy
   pub qtys-too : length qtys ≡ length isBuy
 
--- what an order adds to a side's total at p
-unfoldable pub added : (buys isBuy : Bool) (limit qty p : ℕ) → ℕ
-added buys isBuy limit qty p = cond buys (only (isBuy && leb p limit) qty) (only (not isBuy && leb limit p) qty)
-
--- the total of a side at p
-abbrev pub sideTotal : List Bool → List ℕ → List ℕ → (buys : Bool) (p : ℕ) → ℕ
-sideTotal isBuy limits qtys buys p = cond buys (buy isBuy limits qtys p) (sell isBuy limits qtys p)
-
 -- a quote holds its price's figures
 pub record Quoted (isBuy : List Bool) (limits qtys : List ℕ) (q : Quote) : Type 0 where
   pub volume : value (q .executed) ≡ executed isBuy limits qtys (q .price)
   pub gap : value (q .imbalance) ≡ imbalance isBuy limits qtys (q .price)
 
+-- a quote made of the totals of the two sides
+pub record QuoteOf (p buys sells : ℕ) (q : Quote) : Type 0 where
+  pub price-is : q .price ≡ p
+  pub volume : value (q .executed) ≡ min buys sells
+  pub gap : value (q .imbalance) ≡ apart sells buys
+
 -- the price kept
 abbrev pub best : Kept → Best
-best Nothing = none
-best (Found q) = at (q .price)
+best k = cond (k .found) (at (k .quote .price)) none
 
 abbrev pub AllQuoted : List Bool → List ℕ → List ℕ → Kept → Type 0
-AllQuoted isBuy limits qtys Nothing = Unit
-AllQuoted isBuy limits qtys (Found q) = Quoted isBuy limits qtys q
+AllQuoted isBuy limits qtys k = k .found ≡ true → Quoted isBuy limits qtys (k .quote)
 
 -- one quote is better than another, by their figures
 unfoldable pub ahead : (a b : Quote) (reference : ℕ) → Bool
@@ -50,18 +47,22 @@ ahead a b reference =
     lex (value (b .executed)) (value (a .executed))
     (lex (value (a .imbalance)) (value (b .imbalance)) (lex (apart (a .price) reference) (apart (b .price) reference) (ltb (a .price) (b .price))))
 
+-- a quote kept
+abbrev pub keeping : Quote → Kept
+keeping q = record { found = true; quote = q }
+
 -- what is kept after a quote that counts, and after any quote
 abbrev pub chosen : Kept → Quote → (reference : ℕ) → Kept
-chosen Nothing q reference = Found q
-chosen (Found o) q reference = cond (ahead q o reference) (Found q) (Found o)
+chosen k q reference = cond (k .found) (cond (ahead q (k .quote) reference) (keeping q) k) (keeping q)
 
 unfoldable pub after : Kept → Quote → (reserve reference : ℕ) → Kept
 after k q reserve reference = cond (leb reserve (q .price)) (cond (ltb 0 (value (q .executed))) (chosen k q reference) k) k
 
--- the best limit, going through the orders in their own sequence
-unfoldable pub byOrder : List Bool → List ℕ → List ℕ → (reserve reference : ℕ) → Best
-byOrder isBuy limits qtys reserve reference =
-    walk (λ p. leb reserve p && executes isBuy limits qtys p) (better isBuy limits qtys reference) none limits
+-- what the search keeps, whatever orders the table is of: the source's price, with its figures
+abbrev pub Searched : SideTotals → (reserve reference : ℕ) → Kept → Type 0
+Searched t reserve reference k =
+    (isBuy : List Bool) (limits qtys : List ℕ) → tableOf t ≡ totalsAt isBuy limits qtys (distinctLimits limits)
+    → (best k ≡ clearPrice isBuy limits qtys reserve reference) × AllQuoted isBuy limits qtys k
 
 -- v is the sum of at most maxOrders quantities
 pub record Whole (qtys : List ℕ) (v : ℕ) : Type 0 where

@@ -1,17 +1,20 @@
 // Uniform-price clearing and pro-rata lots, on parallel slices of 64-bit numbers.
 ghost use mathlib.Core.Path.{_≡_};
-ghost use mathlib.Core.Bool.{true, false, _&&_};
+ghost use mathlib.Core.Bool.{false};
 ghost use Prim.Native.Nat.{_+_, _-_, _/_, _<_, _≤_};
 ghost use lib.ListN.{length};
-ghost use lib.Dec.{ltb, leb};
+ghost use lib.Dec.{ltb};
 ghost use Rattle.laws.specs.Sums.{only};
 ghost use Rattle.laws.specs.Lists.{table};
 ghost use Rattle.laws.specs.Lex.{lex};
 ghost use Rattle.wide.specs.Value.{value, apart};
 ghost use Rattle.credit_math.specs.Limits.{maxOrders};
-ghost use Rattle.credit_math.specs.Price.{found, findUniformClearPrice, executes, better, step};
+ghost use Rattle.credit_math.specs.Price.{found, findUniformClearPrice};
 ghost use Rattle.credit_math.specs.ProRata.{share, residue, proRataRefusal, allocateProRata};
-ghost use Rattle.credit_math.specs.Steps.{Book, added, sideTotal, Quoted, AllQuoted, best, ahead, after, byOrder, Whole, Allotting, before, rank, lot};
+ghost use Rattle.credit_math.specs.Steps.{QuoteOf, ahead, keeping, after, Searched, Whole, Allotting, before, rank, lot};
+use crate::side_totals::SideTotals;
+use crate::side_totals::price_refusal;
+use crate::side_totals::running_sums;
 use wide::Wide;
 
 // A successful cross at a single price.
@@ -36,26 +39,21 @@ pub fn find_uniform_clear_price(
 ) -> Clearing
     ensures { λ r. ⌜ found r ≡ findUniformClearPrice (now («is_buy» .entry)) (now (limits .entry)) (now (qtys .entry)) reserve reference ⌝ }
 {
-    if crate::MAX_ORDERS < is_buy.len() {
-        return Clearing::Refused(refusals::BAD_LENGTH);
+    let refusal = price_refusal(is_buy, limits, qtys);
+    if refusal != 0 {
+        return Clearing::Refused(refusal);
     }
-    if limits.len() != is_buy.len() {
-        return Clearing::Refused(refusals::BAD_LENGTH);
+    let table = running_sums(is_buy, limits, qtys);
+    let kept = search(table, reserve, reference);
+    if kept.found {
+        let best = kept.quote;
+        let volume = best.executed;
+        return Clearing::Cross(ClearResult {
+            clear_price: best.price,
+            executed_qty: volume,
+        });
     }
-    if qtys.len() != is_buy.len() {
-        return Clearing::Refused(refusals::BAD_LENGTH);
-    }
-    let kept = search(is_buy, limits, qtys, reserve, reference);
-    match kept {
-        Kept::Nothing => Clearing::NoCross,
-        Kept::Found(q) => {
-            let volume = q.executed;
-            Clearing::Cross(ClearResult {
-                clear_price: q.price,
-                executed_qty: volume,
-            })
-        }
-    }
+    Clearing::NoCross
 }
 
 // A price with its volume and its imbalance.
@@ -65,47 +63,59 @@ struct Quote {
     imbalance: Wide,
 }
 
-// The best quote so far.
-enum Kept {
-    Nothing,
-    Found(Quote),
+// The best quote so far, if any was found.
+struct Kept {
+    found: bool,
+    quote: Quote,
 }
 
-// Each order's limit in turn, with the best so far.
-fn search(is_buy: &[bool], limits: &[u64], qtys: &[u64], reserve: u64, reference: u64) -> Kept
-    requires { ⌜ Book (now «is_buy») (now limits) (now qtys) ⌝ }
-    ensures { λ r. ⌜ (best r ≡ byOrder (now («is_buy» .entry)) (now (limits .entry)) (now (qtys .entry)) reserve reference)
-        × AllQuoted (now («is_buy» .entry)) (now (limits .entry)) (now (qtys .entry)) r ⌝ }
+// Each row of the table in turn, with the best so far.
+fn search(table: SideTotals, reserve: u64, reference: u64) -> Kept
+    requires { ⌜ table .count ≤ maxOrders ⌝ }
+    ensures { λ r. ⌜ Searched table reserve reference r ⌝ }
 {
-    let mut kept = Kept::Nothing;
+    let mut kept = nothing();
+    let n = table.count;
     let mut i = 0;
-    while i < limits.len() {
-        kept = tried(kept, is_buy, limits, qtys, limits[i], reserve, reference);
+    while i < n {
+        let buy = table.buys[i];
+        let sell = table.sells[i];
+        kept = consider(
+            kept,
+            quote_of(table.limits[i], buy, sell),
+            reserve,
+            reference,
+        );
         i += 1;
     }
     kept
 }
 
-// The best so far, after a limit: below the reserve it is passed over with no quote.
-fn tried(
-    kept: Kept,
-    is_buy: &[bool],
-    limits: &[u64],
-    qtys: &[u64],
-    p: u64,
-    reserve: u64,
-    reference: u64,
-) -> Kept
-    requires { ⌜ Book (now «is_buy») (now limits) (now qtys) × AllQuoted (now «is_buy») (now limits) (now qtys) kept ⌝ }
-    ensures { λ r. ⌜ (best r ≡ step (λ x. leb reserve x && executes (now («is_buy» .entry)) (now (limits .entry)) (now (qtys .entry)) x)
-        (better (now («is_buy» .entry)) (now (limits .entry)) (now (qtys .entry)) reference) (best kept) p)
-        × AllQuoted (now («is_buy» .entry)) (now (limits .entry)) (now (qtys .entry)) r ⌝ }
+// No quote yet.
+fn nothing() -> Kept
+    ensures { λ r. ⌜ r .found ≡ false ⌝ }
 {
-    if p < reserve {
-        return kept;
+    let none = wide::of_word(0);
+    let quote = Quote {
+        price: 0,
+        executed: none,
+        imbalance: none,
+    };
+    Kept {
+        found: false,
+        quote,
     }
-    let q = quote_at(is_buy, limits, qtys, p);
-    consider(kept, q, reserve, reference)
+}
+
+// The figures of a price, from the totals of its sides.
+fn quote_of(price: u64, buy: Wide, sell: Wide) -> Quote
+    ensures { λ r. ⌜ QuoteOf price (value buy) (value sell) r ⌝ }
+{
+    Quote {
+        price,
+        executed: wide::least(buy, sell),
+        imbalance: wide::distance(sell, buy),
+    }
 }
 
 // The best so far, after a quote: below the reserve, or executing 0, it is passed over.
@@ -118,16 +128,20 @@ fn consider(kept: Kept, q: Quote, reserve: u64, reference: u64) -> Kept
     if wide::is_zero(q.executed) {
         return kept;
     }
-    match kept {
-        Kept::Nothing => Kept::Found(q),
-        Kept::Found(old) => {
-            if is_better(q, old, reference) {
-                Kept::Found(q)
-            } else {
-                Kept::Found(old)
-            }
+    if kept.found {
+        let old = kept.quote;
+        if is_better(q, old, reference) {
+            return keep(q);
         }
+        return kept;
     }
+    keep(q)
+}
+
+fn keep(quote: Quote) -> Kept
+    ensures { λ r. ⌜ r ≡ keeping quote ⌝ }
+{
+    Kept { found: true, quote }
 }
 
 // Whether quote a is better than quote b.
@@ -168,55 +182,6 @@ fn abs_diff(a: u64, b: u64) -> u64
     ensures { λ r. ⌜ r ≡ apart a b ⌝ }
 {
     if a < b { b - a } else { a - b }
-}
-
-// The figures of a price.
-fn quote_at(is_buy: &[bool], limits: &[u64], qtys: &[u64], p: u64) -> Quote
-    requires { ⌜ Book (now «is_buy») (now limits) (now qtys) ⌝ }
-    ensures { λ r. ⌜ (r .price ≡ p) × Quoted (now («is_buy» .entry)) (now (limits .entry)) (now (qtys .entry)) r ⌝ }
-{
-    let buy = side_total(true, is_buy, limits, qtys, p);
-    let sell = side_total(false, is_buy, limits, qtys, p);
-    Quote {
-        price: p,
-        executed: wide::least(buy, sell),
-        imbalance: wide::distance(sell, buy),
-    }
-}
-
-// The total of a side at p.
-fn side_total(buys: bool, is_buy: &[bool], limits: &[u64], qtys: &[u64], p: u64) -> Wide
-    requires { ⌜ Book (now «is_buy») (now limits) (now qtys) ⌝ }
-    ensures { λ r. ⌜ value r ≡ sideTotal (now («is_buy» .entry)) (now (limits .entry)) (now (qtys .entry)) buys p ⌝ }
-{
-    let mut sum = wide::of_word(0);
-    let mut i = 0;
-    while i < is_buy.len() {
-        sum = wide::add(sum, added_at(buys, is_buy[i], limits[i], qtys[i], p));
-        i += 1;
-    }
-    sum
-}
-
-// What an order adds to a side's total at p: buyers take part at or below their limit, sellers at or above it.
-fn added_at(buys: bool, is_buy: bool, limit: u64, qty: u64, p: u64) -> u64
-    ensures { λ r. ⌜ r ≡ added buys «is_buy» limit qty p ⌝ }
-{
-    if buys {
-        if is_buy {
-            if p <= limit {
-                return qty;
-            }
-        }
-        return 0;
-    }
-    if is_buy {
-        return 0;
-    }
-    if limit <= p {
-        return qty;
-    }
-    0
 }
 
 // Lots of a total over at most 16 quantities: 0, or the number of a refusal, which leaves the output as it was.

@@ -6,6 +6,7 @@ use wide::Division;
 use wide::Wide;
 
 pub mod allocation;
+pub mod side_totals;
 
 // The most orders of a book: the limit of every list here.
 pub const MAX_ORDERS: usize = 16;

@@ -1,4 +1,4 @@
--- `credit_math::allocation::consider` meets its contract. Each branch is a case of `after`, from what `is_zero` and `is_better` ensure.
+-- `credit_math::allocation::consider` meets its contract. Each branch is a case of `after`, from what `is_zero`, `is_better` and `keep` ensure.
 -- Assumes nothing.
 use mathlib.Core.Path.{sym, _∙_}
 use borrow.Author.Needs.{needs}
@@ -15,23 +15,25 @@ is-zero-requires c κs = search needs
 returns-2 : tie.Need-returns-2
 returns-2 c = after-none _ _ _ _ (c .before .before .if1 .left) (sym (c .before .is-zero .ensures) ∙ c .if2 .taken)
 
-enum-told : tie.Need-enum-told
-enum-told c = search needs
-
-enum-known-kept : tie.Need-enum-known-kept
-enum-known-kept c = search needs
-
 is-better-requires : tie.Need-is-better-requires
 is-better-requires c κs = search needs
 
+keep-requires : tie.Need-keep-requires
+keep-requires c κs = search needs
+
 returns-3 : tie.Need-returns-3
-returns-3 c = after-first _ _ _ _ (c .before .before .before .before .if1 .left) (sym (c .before .before .before .is-zero .ensures) ∙ c .before .before .if2 .left) (c .enum-told .given .1)
+returns-3 c =
+    c .keep .ensures
+    ∙ after-better _ _ _ _ (c .before .before .before .before .before .before .before .if1 .left) (sym (c .before .before .before .before .before .before .is-zero .ensures) ∙ c .before .before .before .before .before .if2 .left) (c .before .before .before .before .if3 .taken) (sym (c .before .before .is-better .ensures) ∙ c .before .if4 .taken)
 
 returns-4 : tie.Need-returns-4
-returns-4 c = after-better _ _ _ _ (c .before .before .before .before .before .before .before .if1 .left) (sym (c .before .before .before .before .before .before .is-zero .ensures) ∙ c .before .before .before .before .before .if2 .left) _ (c .before .before .before .kept .given .1) (sym (c .before .is-better .ensures) ∙ c .if3 .taken)
+returns-4 c = after-not-better _ _ _ _ (c .before .before .before .before .before .before .if1 .left) (sym (c .before .before .before .before .before .is-zero .ensures) ∙ c .before .before .before .before .if2 .left) (c .before .before .before .if3 .taken) (sym (c .before .is-better .ensures) ∙ c .if4 .left)
+
+keep-requires-2 : tie.Need-keep-requires-2
+keep-requires-2 c κs = search needs
 
 returns-5 : tie.Need-returns-5
-returns-5 c = after-not-better _ _ _ _ (c .before .before .before .before .before .before .before .if1 .left) (sym (c .before .before .before .before .before .before .is-zero .ensures) ∙ c .before .before .before .before .before .if2 .left) _ (c .before .before .before .kept .given .1) (sym (c .before .is-better .ensures) ∙ c .if3 .left)
+returns-5 c = c .keep2 .ensures ∙ after-first _ _ _ _ (c .before .before .before .before .if1 .left) (sym (c .before .before .before .is-zero .ensures) ∙ c .before .before .if2 .left) (c .before .if3 .left)
 
 pub consider-spec : {M : Type 1} → statement M
 consider-spec =
@@ -40,9 +42,9 @@ consider-spec =
     returns
     is-zero-requires
     returns-2
-    enum-told
-    enum-known-kept
     is-better-requires
+    keep-requires
     returns-3
     returns-4
+    keep-requires-2
     returns-5)

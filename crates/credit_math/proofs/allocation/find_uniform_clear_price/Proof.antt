@@ -1,53 +1,44 @@
--- `credit_math::allocation::find_uniform_clear_price` meets its contract. The refusals are the checks of `priceRefusal`; else the answer is that of what `search` keeps.
--- Assumes nothing.
-use mathlib.Core.Path.{sym, _∙_, ap}
+-- `credit_math::allocation::find_uniform_clear_price` meets its contract. A refusal is that of `price_refusal`; else the answer is that of what `search` keeps
+-- of the table of `running_sums`. Assumes nothing.
+use mathlib.Core.Path.{sym, _∙_}
 use borrow.Author.Needs.{needs}
-use borrow.Author.Tests.{le-leb, lt-leb, eq-eqb, ne-eqb}
-use Rattle.laws.specs.Checks.{unless, _then_}
-use Rattle.credit_math.specs.Price.{priceRefusal, findUniformClearPrice}
-use Rattle.credit_math.proofs.Price.{book-accepted}
-use Rattle.credit_math.proofs.Search.{answer, answered}
+use borrow.Author.Tests.{ne-eqb}
+use Rattle.credit_math.specs.Price.{findUniformClearPrice}
+use Rattle.credit_math.proofs.Price.{accepted-book}
+use Rattle.credit_math.proofs.Search.{few-rows, answered}
 use Rattle.credit_math.proofs.allocation.find_uniform_clear_price.Statement.{statement}
 use Rattle.credit_math.proofs.allocation.find_uniform_clear_price.Tie as tie
 
+price-refusal-requires : tie.Need-price-refusal-requires
+price-refusal-requires c κs = search needs
+
 returns : tie.Need-returns
-unfolding findUniformClearPrice priceRefusal unless _then_
-returns c = simp (lt-leb _ _ (c .if1 .taken))
+unfolding findUniformClearPrice
+returns c = rw (← c .before .price-refusal .ensures, ne-eqb _ _ (c .if1 .taken))
 
-returns-2 : tie.Need-returns-2
-unfolding findUniformClearPrice priceRefusal unless _then_
-returns-2 c = simp (le-leb _ _ (c .before .if1 .left), ne-eqb _ _ (c .if2 .taken))
-
-returns-3 : tie.Need-returns-3
-unfolding findUniformClearPrice priceRefusal unless _then_
-returns-3 c = simp (le-leb _ _ (c .before .before .if1 .left), eq-eqb _ _ (c .before .if2 .left), ne-eqb _ _ (c .if3 .taken))
+running-sums-requires : tie.Need-running-sums-requires
+running-sums-requires c κs = accepted-book (sym (c .before .price-refusal .ensures) ∙ c .if1 .left)
 
 search-requires : tie.Need-search-requires
-search-requires c κs = search needs
+search-requires c κs = few-rows _ _ _ (c .running-sums .result) (sym (c .before .before .price-refusal .ensures) ∙ c .before .if1 .left) (c .running-sums .ensures)
 
-enum-told : tie.Need-enum-told
-enum-told c = search needs
+returns-2 : tie.Need-returns-2
+returns-2 c =
+    rw (c .before .before .if2 .taken)
+    at (answered _ _ _ _ _ (c .before .before .before .search .result) (sym (c .before .before .before .before .before .before .price-refusal .ensures) ∙ c .before .before .before .before .before .if1 .left) (c .before .before .before .search .ensures _ _ _ (c .before .before .before .before .running-sums .ensures)))
 
-enum-known-kept : tie.Need-enum-known-kept
-enum-known-kept c = search needs
-
-returns-4 : tie.Need-returns-4
-returns-4 c =
-    sym (ap answer (c .enum-told .given .1)) ∙ answered _ _ _ _ _ (c .before .before .search .result) (book-accepted (search needs)) (c .before .before .search .ensures)
-
-returns-5 : tie.Need-returns-5
-returns-5 c =
-    sym (ap answer (c .before .before .kept .given .1)) ∙ answered _ _ _ _ _ (c .before .before .before .before .search .result) (book-accepted (search needs)) (c .before .before .before .before .search .ensures)
+returns-3 : tie.Need-returns-3
+returns-3 c =
+    rw (c .if2 .left)
+    at (answered _ _ _ _ _ (c .before .search .result) (sym (c .before .before .before .before .price-refusal .ensures) ∙ c .before .before .before .if1 .left) (c .before .search .ensures _ _ _ (c .before .before .running-sums .ensures)))
 
 pub find-uniform-clear-price-spec : {M : Type 1} → statement M
 find-uniform-clear-price-spec =
     tie.close
     (tie.spec
+    price-refusal-requires
     returns
-    returns-2
-    returns-3
+    running-sums-requires
     search-requires
-    enum-told
-    enum-known-kept
-    returns-4
-    returns-5)
+    returns-2
+    returns-3)
