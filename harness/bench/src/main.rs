@@ -1,8 +1,10 @@
 //! `bench`: the same files through the C entry and through the published source, in one run.
 //!
 //! The source's time has the accounts that the oracle makes for each call and its text in it, as the C entry's has its own reading and
-//! writing; each screen is run once. The ratio is the source's time over the C entry's.
+//! writing; each screen is run once. The ratio is the source's time over the C entry's. Last comes the price search beside the one that
+//! it replaced.
 mod corpus;
+mod search;
 mod timing;
 
 use corpus::{courses, covered, kinds, records, screened, Kind, FULL, NOW, SHORT, STAGES};
@@ -37,6 +39,8 @@ fn main() -> ExitCode {
     cover("no decimals", covered(0, 2000, 1_000_000));
     cover("a product of one word", covered(6, 2_000_000, 1_000_000));
     cover("a product of two words", covered(18, 1 << 63, 1_000_000_000_000_000_000));
+    println!();
+    search::compare();
     ExitCode::SUCCESS
 }
 

@@ -1,4 +1,4 @@
-//! How long each side takes for some files.
+//! How long each of two sides takes.
 use std::hint::black_box;
 use std::time::{Duration, Instant};
 
@@ -8,15 +8,24 @@ const ROUND: Duration = Duration::from_millis(15);
 /// The two sides, in the words of the tables.
 pub const SIDES: [&str; 2] = ["C entry", "source"];
 
-/// Nanoseconds for all the files of each set, on each side: the best of some rounds. Sets and sides take turns, so that all meet the
-/// same disturbance.
+/// Nanoseconds for all the files of each set, on each side.
 pub fn nanoseconds<const N: usize>(sets: [&[Vec<u8>]; N]) -> [[f64; 2]; N] {
     let mut output = vec![0; 1 << 20];
+    in_turns(sets, |side, file| match side {
+        0 => ours(file, &mut output),
+        _ => source(file),
+    })
+}
+
+/// Nanoseconds for all the items of each set, on each of two sides: the best of some rounds. Sets and sides take turns, so that all meet
+/// the same disturbance.
+pub fn in_turns<T, const N: usize>(sets: [&[T]; N], mut run: impl FnMut(usize, &T)) -> [[f64; 2]; N] {
     let mut best = [[f64::INFINITY; 2]; N];
     for _ in 0..ROUNDS {
-        for (files, best) in sets.iter().zip(&mut best) {
-            best[0] = best[0].min(round(|| files.iter().for_each(|f| ours(f, &mut output))));
-            best[1] = best[1].min(round(|| files.iter().for_each(|f| source(f))));
+        for (items, best) in sets.iter().zip(&mut best) {
+            for (side, best) in best.iter_mut().enumerate() {
+                *best = best.min(round(|| items.iter().for_each(|item| run(side, item))));
+            }
         }
     }
     best

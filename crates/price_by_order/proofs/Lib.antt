@@ -1,0 +1,3 @@
+-- Laws of the search by order.
+pub mod ByOrder
+pub mod Walk

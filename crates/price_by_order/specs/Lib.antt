@@ -1,0 +1,2 @@
+-- What the search by order keeps on the way.
+pub mod Steps
