@@ -65,7 +65,8 @@ fn near(r: &mut Random, limits: &[u64]) -> u64 {
     r.pick(limits).wrapping_add(r.below(3)).wrapping_sub(1)
 }
 
-fn numbers(r: &mut Random, n: usize) -> Vec<u64> {
+/// Numbers that tie often, or are all the same.
+pub fn numbers(r: &mut Random, n: usize) -> Vec<u64> {
     let small = r.pick(&[2, 4, 12, 1000]);
     if r.one_in(8) {
         return vec![number(r, small); n];

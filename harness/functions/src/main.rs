@@ -1,9 +1,10 @@
 //! `functions [--seed S] [--cases N]`: the price search and pro-rata through the published source and through ours, on parallel slices
-//! and on records, one answer after the other; and as many tests of an order's cover.
+//! and on records, one answer after the other; and as many tests of an order's cover, and tables of side totals.
 mod case;
 mod cover;
 mod records;
 mod slices;
+mod table;
 mod words;
 
 use case::Case;
@@ -25,7 +26,9 @@ fn main() -> ExitCode {
     println!("{count} cases, {different} different");
     let [tests, wrong] = cover::compare(&mut Random(seed), count);
     println!("{tests} tests of cover, {wrong} different");
-    ExitCode::from(u8::from(different != 0 || wrong != 0 || !refused))
+    let [tables, turned_away, bad] = table::compare(&mut Random(seed), count);
+    println!("{tables} tables, {turned_away} of them refused, {bad} different");
+    ExitCode::from(u8::from(different + wrong + bad != 0 || !refused))
 }
 
 /// Shows how often each kind of answer was seen and the first differences.

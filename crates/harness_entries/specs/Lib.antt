@@ -1,0 +1,2 @@
+-- What the entries answer.
+pub mod Rows
