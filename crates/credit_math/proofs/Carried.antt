@@ -17,7 +17,7 @@ only-and : (a b : Bool) (x : ℕ) → (a ≡ true → b ≡ true) → only a x �
 only-and true b x h = rw (h refl)
 only-and false b x h = refl
 
-only-within : (a : Bool) (x : ℕ) → only a x ≤ x
+pub only-within : (a : Bool) (x : ℕ) → only a x ≤ x
 only-within true x = omega arith
 only-within false x = omega arith
 

@@ -1,13 +1,14 @@
 -- Which rows a table of side totals has, and what stands at each place of its columns. Assumes nothing.
 use mathlib.Core.Path.{_≡_, sym, _∙_, ap}
-use mathlib.Core.Logic.{_↔_, ⊎-elim}
+use mathlib.Core.Logic.{_≢_, _↔_, ⊎-elim}
 use mathlib.Core.Bool.{Bool}
-use mathlib.Core.List.{List, _++_, map}
+use mathlib.Core.List.{List, [], _++_, map}
 use Prim.Native.Nat.{ℕ, _+_, _-_, _<_, _≤_}
 use native.Mathlib.Omega.{arith}
 use lib.Dec.{ltb}
 use lib.ListN.{length, getD, replicate, length-append, length-map, length-replicate, List·getD-append, List·getD-map}
 use lib.Seq.{ext-getD, getD-append-add}
+use borrow.Author.Tests.{eq-eqb, ne-eqb}
 use Rattle.laws.specs.Lists.{Member}
 use Rattle.laws.specs.Sort.{sort}
 use Rattle.laws.proofs.Tests.{lt-or-le}
@@ -16,8 +17,8 @@ use Rattle.laws.proofs.Sort.{sort-members, dedup-members, length-sort}
 use Rattle.laws.proofs.Ordered.{length-dedup}
 use Rattle.wide.specs.Value.{value}
 use Rattle.credit_math.specs.Limits.{maxOrders}
-use Rattle.credit_math.specs.Price.{buy, sell}
-use Rattle.credit_math.specs.SideTotals.{Table, tableOf, distinctLimits, column, totalsAt}
+use Rattle.credit_math.specs.Price.{buy, sell, priceRefusal}
+use Rattle.credit_math.specs.SideTotals.{Table, tableOf, distinctLimits, column, totalsAt, sideTotals}
 use Rattle.credit_math.specs.Carried.{noWide}
 use Rattle.credit_math.specs.declared.side_totals.SideTotals.{SideTotals}
 
@@ -57,6 +58,16 @@ module _ (f : ℕ → ℕ) (rows : List ℕ) where
   column-is few l whole there past =
       ext-getD 0 l (column f rows) (whole ∙ sym (length-column few))
       (λ k _. ⊎-elim (λ (h : k < length rows). there k h ∙ sym (column-at k h)) (λ (h : length rows ≤ k). past k h ∙ sym (column-past k h)) (lt-or-le k (length rows)))
+
+-- the table of orders that are not refused has the rows of their limits, and of those that are none
+module _ (isBuy : List Bool) (limits qtys : List ℕ) where
+  pub table-accepted : priceRefusal isBuy limits qtys ≡ 0 → sideTotals isBuy limits qtys ≡ totalsAt isBuy limits qtys (distinctLimits limits)
+  unfolding sideTotals
+  table-accepted z = rw (eq-eqb (priceRefusal isBuy limits qtys) 0 z)
+
+  pub table-refused : priceRefusal isBuy limits qtys ≢ 0 → sideTotals isBuy limits qtys ≡ totalsAt isBuy limits qtys []
+  unfolding sideTotals
+  table-refused ne = rw (ne-eqb (priceRefusal isBuy limits qtys) 0 ne)
 
 -- t is the table of the orders, with these rows
 module _ (isBuy : List Bool) (limits qtys rows : List ℕ) (t : SideTotals) (is : tableOf t ≡ totalsAt isBuy limits qtys rows) where

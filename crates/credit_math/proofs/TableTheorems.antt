@@ -1,20 +1,21 @@
 -- The table of side totals is right, and the sums that are carried along stay small. Assumes nothing.
 use mathlib.Core.Path.{_≡_, refl, sym, _∙_, ap, subst}
-use mathlib.Core.Logic.{_≢_}
 use mathlib.Core.Bool.{Bool}
 use mathlib.Core.List.{List, []}
 use Prim.Native.Nat.{ℕ, _<_, zero-le}
-use native.Mathlib.Nat.{lt-trans}
+use native.Mathlib.Nat.{lt-trans, lt-of-le-of-lt}
 use lib.ListN.{length, getD}
-use borrow.Author.Tests.{eq-eqb, ne-eqb}
+use Rattle.laws.specs.Sums.{only}
 use Rattle.laws.specs.Lists.{Member}
+use Rattle.laws.proofs.Sums.{sum-le-sum, sum-mono}
+use Rattle.laws.proofs.Widths.{sum-below}
 use Rattle.laws.proofs.Lists.{getD-member, member-place}
 use Rattle.laws.proofs.Ordered.{dedup-up}
-use Rattle.credit_math.specs.Price.{buy, sell, priceRefusal}
-use Rattle.credit_math.specs.SideTotals.{distinctLimits, column, totalsAt, sideTotals}
+use Rattle.credit_math.specs.Price.{buy, sell}
+use Rattle.credit_math.specs.SideTotals.{distinctLimits, column, totalsAt}
 use Rattle.credit_math.specs.Claims.{RightTable, TableIsRight, RunningSumsFit}
-use Rattle.credit_math.proofs.Totals.{buy-below, sell-below}
-use Rattle.credit_math.proofs.Columns.{distinct-members, column-at, column-past}
+use Rattle.credit_math.proofs.Carried.{only-within}
+use Rattle.credit_math.proofs.Columns.{distinct-members, column-at, column-past, table-accepted, table-refused}
 
 module _ (isBuy : List Bool) (limits qtys : List ℕ) where
   -- the rows, in short
@@ -40,14 +41,6 @@ module _ (isBuy : List Bool) (limits qtys : List ℕ) where
     sells = λ k h. column-at (sell isBuy limits qtys) rows k h ∙ ap (sell isBuy limits qtys) (sym (limit-at k h));
   }
 
-  accepted : priceRefusal isBuy limits qtys ≡ 0 → sideTotals isBuy limits qtys ≡ totalsAt isBuy limits qtys rows
-  unfolding sideTotals
-  accepted z = rw (eq-eqb (priceRefusal isBuy limits qtys) 0 z)
-
-  refused : priceRefusal isBuy limits qtys ≢ 0 → sideTotals isBuy limits qtys ≡ totalsAt isBuy limits qtys []
-  unfolding sideTotals
-  refused ne = rw (ne-eqb (priceRefusal isBuy limits qtys) 0 ne)
-
   no-rows : totalsAt isBuy limits qtys [] .count ≡ 0
   unfolding totalsAt
   no-rows = refl
@@ -58,11 +51,12 @@ module _ (isBuy : List Bool) (limits qtys : List ℕ) where
 
 pub table-is-right : (isBuy : List Bool) (limits qtys : List ℕ) → TableIsRight isBuy limits qtys
 table-is-right isBuy limits qtys = record {
-  right = λ z. rw (accepted isBuy limits qtys z) (right-table isBuy limits qtys);
-  no-row = λ ne. rw (refused isBuy limits qtys ne) (no-rows isBuy limits qtys);
-  no-figure = λ ne k. rw (refused isBuy limits qtys ne) (no-figures isBuy limits qtys k);
+  right = λ z. rw (table-accepted isBuy limits qtys z) (right-table isBuy limits qtys);
+  no-row = λ ne. rw (table-refused isBuy limits qtys ne) (no-rows isBuy limits qtys);
+  no-figure = λ ne k. rw (table-refused isBuy limits qtys ne) (no-figures isBuy limits qtys k);
 }
 
 pub running-sums-fit : (isBuy : List Bool) (limits qtys : List ℕ) → RunningSumsFit isBuy limits qtys
-running-sums-fit isBuy limits qtys n k some few short p =
-    (buy-below isBuy limits qtys p n k some few short, sell-below isBuy limits qtys p n k some few short)
+running-sums-fit isBuy limits qtys n k some few short picked =
+    lt-of-le-of-lt (sum-le-sum (λ i. only (picked i) (getD qtys i 0)) (λ i. getD qtys i 0) (length isBuy) (λ i _. only-within (picked i) (getD qtys i 0)))
+    (lt-of-le-of-lt (sum-mono (λ i. getD qtys i 0) (length isBuy) n few) (sum-below k (λ i. getD qtys i 0) n short some))

@@ -6,7 +6,7 @@ use mathlib.Core.List.{List}
 use Prim.Native.Nat.{ℕ, _+_, _*_, _^_, _≤_, _<_}
 use lib.Dec.{ltb}
 use lib.ListN.{length, getD}
-use Rattle.laws.specs.Sums.{count, sumOf}
+use Rattle.laws.specs.Sums.{sumBelow, only, count, sumOf}
 use Rattle.laws.specs.Lists.{Member}
 use Rattle.credit_math.specs.Limits.{maxOrders, sideBits, volumeBits}
 use Rattle.credit_math.specs.Error.{badLength, noCross}
@@ -67,10 +67,11 @@ module _ (isBuy : List Bool) (limits qtys : List ℕ) where
     pub no-figure : priceRefusal isBuy limits qtys ≢ 0 → (k : ℕ)
         → (getD (sideTotals isBuy limits qtys .limits) k 0 ≡ 0) × (getD (sideTotals isBuy limits qtys .buys) k 0 ≡ 0) × (getD (sideTotals isBuy limits qtys .sells) k 0 ≡ 0)
 
-  -- the sums that are carried along, for any number of orders and every width: of n orders with quantities of k bits they stay below n × 2 ^ k
+  -- the sums that are carried along are of some of the orders: of n orders with quantities of k bits they stay below n × 2 ^ k, whichever orders, and for
+  -- every n and k
   abbrev pub RunningSumsFit : Type 0
-  RunningSumsFit = (n k : ℕ) → 0 < n → length isBuy ≤ n → ((i : ℕ) → getD qtys i 0 < 2 ^ k) → (p : ℕ)
-      → (buy isBuy limits qtys p < n * 2 ^ k) × (sell isBuy limits qtys p < n * 2 ^ k)
+  RunningSumsFit = (n k : ℕ) → 0 < n → length isBuy ≤ n → ((i : ℕ) → getD qtys i 0 < 2 ^ k) → (some : ℕ → Bool)
+      → sumBelow (λ i. only (some i) (getD qtys i 0)) (length isBuy) < n * 2 ^ k
 
   -- 'Side totals may reach 68 bits, the volume 67': not more, for at most maxOrders orders of 64-bit quantities
   pub record WithinBits : Type 0 where

@@ -7,7 +7,6 @@ use Prim.Native.Nat.{ℕ, _≤_, _<_, zero-le}
 use native.Mathlib.Nat.{eq-zero-or-pos}
 use native.Mathlib.Omega.{arith}
 use lib.ListN.{length, getD, List·getD-map}
-use borrow.Author.Tests.{eq-eqb, ne-eqb}
 use Rattle.wide.specs.Value.{value}
 use Rattle.credit_math.specs.Limits.{maxOrders}
 use Rattle.credit_math.specs.Price.{buy, sell, priceRefusal}
@@ -16,7 +15,7 @@ use Rattle.credit_math.specs.SideTotals.{Table, tableOf, distinctLimits, totals
 use Rattle.credit_math.specs.Carried.{noWide}
 use Rattle.credit_math.specs.declared.side_totals.SideTotals.{SideTotals}
 use Rattle.credit_math.proofs.Price.{accepted-book}
-use Rattle.credit_math.proofs.Columns.{distinct-few, column-past}
+use Rattle.credit_math.proofs.Columns.{distinct-few, column-past, table-accepted, table-refused}
 use Rattle.harness_entries.specs.Rows.{RowSays, RowOf}
 use Rattle.harness_entries.specs.declared.TotalsRow.{TotalsRow}
 
@@ -30,13 +29,12 @@ module _ (isBuy : List Bool) (limits qtys : List ℕ) where
   past-rows rows k h = (column-past (λ p. p) rows k h, column-past (buy isBuy limits qtys) rows k h, column-past (sell isBuy limits qtys) rows k h)
 
   past-all : (k : ℕ) → maxOrders ≤ k → Past (sideTotals isBuy limits qtys) k
-  unfolding sideTotals
   past-all k h =
       ⊎-elim
       (λ (z : priceRefusal isBuy limits qtys ≡ 0).
       let b : Book isBuy limits qtys = accepted-book z in
-      rw (eq-eqb (priceRefusal isBuy limits qtys) 0 z) (past-rows (distinctLimits limits) k (omega (arith, distinct-few limits, b .few, b .limits-too))))
-      (λ (p : 0 < priceRefusal isBuy limits qtys). rw (ne-eqb (priceRefusal isBuy limits qtys) 0 (omega arith)) (past-rows [] k zero-le))
+      rw (table-accepted isBuy limits qtys z) (past-rows (distinctLimits limits) k (omega (arith, distinct-few limits, b .few, b .limits-too))))
+      (λ (p : 0 < priceRefusal isBuy limits qtys). rw (table-refused isBuy limits qtys (omega arith)) (past-rows [] k zero-le))
       (eq-zero-or-pos (priceRefusal isBuy limits qtys))
 
   module _ (t : SideTotals) (is : tableOf t ≡ sideTotals isBuy limits qtys) (refusal : ℕ) (same : refusal ≡ priceRefusal isBuy limits qtys) (k : ℕ) {r : TotalsRow} where
