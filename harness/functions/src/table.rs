@@ -18,15 +18,8 @@ struct Row {
 }
 
 extern "C" {
-    fn entry_side_totals(
-        is_buy: *const bool,
-        is_buy_len: usize,
-        limits: *const u64,
-        limits_len: usize,
-        qtys: *const u64,
-        qtys_len: usize,
-        row: usize,
-    ) -> Row;
+    /// Sides, limits and quantities, each as a pointer with its length; then the row.
+    fn entry_side_totals(_: *const bool, _: usize, _: *const u64, _: usize, _: *const u64, _: usize, row: usize) -> Row;
 }
 
 #[derive(Debug)]
