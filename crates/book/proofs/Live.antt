@@ -6,7 +6,7 @@ use Prim.Native.Nat.{ℕ, ◌+◌, ◌≤◌, ◌<◌, min}
 use native.Mathlib.Numerals.{add-one}
 use native.Mathlib.Omega.{arith}
 use lib.Dec.{eqb, leb}
-use lib.ListN.{length, get_or, set, take, replicate, length-map, length-take, length-replicate}
+use lib.ListN.{length, get_or, set, take, replicate, length-replicate}
 use lib.Seq.{take-suc, get_or-take, take_all}
 use Rattle.laws.specs.Sums.{only}
 use Rattle.laws.specs.Lists.{table, keep, Member}
@@ -75,10 +75,6 @@ module _ (orders : List Order) where
     qtys-too = gathering (ap (λ (x : Live). length x.qtys) e ∙ length-replicate {A = ℕ} maxOrders 0);
   }
 
--- a part that has n places is of an array that has as many
-pub part-fits : {A : Type 0} {n : ℕ} (l : List A) → n ≡ length (take n l) → n ≤ length l
-part-fits {A} {n} l e = omega (arith, e, length-take n l)
-
 -- no more than the limit
 pub live-few : (orders : List Order) (n : ℕ) → length (liveOrders orders n) ≤ maxOrders
 unfolding liveOrders
@@ -88,15 +84,6 @@ live-few orders n = omega (arith, keep-short (λ i. isLive (orderIn orders i)) (
 module _ {orders : List Order} {n : ℕ} {l : Live} (g : Gathered orders n l) where
   pub gathered-few : l.count ≤ maxOrders
   gathered-few = omega (arith, g.counted, live-few orders n)
-
-  pub sides-length : l.count ≡ length (take l.count l.is_buy)
-  sides-length = g.counted ∙ sym (ap length g.sides ∙ length-map (liveOrders orders n) _)
-
-  pub limits-length : l.count ≡ length (take l.count l.limits)
-  limits-length = g.counted ∙ sym (ap length g.limits ∙ length-map (liveOrders orders n) _)
-
-  pub qtys-length : l.count ≡ length (take l.count l.qtys)
-  qtys-length = g.counted ∙ sym (ap length g.qtys ∙ length-map (liveOrders orders n) _)
 
 -- a live order is one of the first n
 pub live-inside : (orders : List Order) (n x : ℕ) → Member x (liveOrders orders n) → (x < min n maxOrders) × (isLive (orderIn orders x) ≡ true)
@@ -117,12 +104,6 @@ module _ {orders : List Order} {n : ℕ} {buys : Bool} {p : ℕ} {s : Side} (g :
   pub side-few : s.count ≤ maxOrders
   unfolding sideOrders
   side-few = omega (arith, g.counted, keep-short (tradesAt orders n buys p) (liveOrders orders n), live-few orders n)
-
-  pub side-numbers-length : s.count ≡ length (take s.count s.numbers)
-  side-numbers-length = g.counted ∙ sym (ap length g.numbers)
-
-  pub side-qtys-length : s.count ≡ length (take s.count s.qtys)
-  side-qtys-length = g.counted ∙ sym (ap length g.qtys ∙ length-map (sideOrders orders n buys p) _)
 
   pub side-places : Places s.numbers s.count
   side-places = record {

@@ -1,13 +1,13 @@
 -- Laws of signed 64-bit numbers by their magnitudes: when a sum fits, and how a sum that does not fit compares.
 -- Assumes nothing.
-use mathlib.Core.Path.{◌≡◌, refl, sym, ap, ◌∙◌}
+use mathlib.Core.Path.{◌≡◌, refl, sym, ◌∙◌}
 use mathlib.Core.Bool.{Bool, true, false}
 use Prim.Native.Nat.{ℕ, suc, ◌+◌, ◌-◌, ◌^◌, ◌≤◌, ◌<◌, zero-le}
 use native.Mathlib.Nat.{lt_of_lt_of_le, le_of_lt}
 use native.Mathlib.Omega.{arith}
-use lib.Dec.{T, ltb, leb-zero, leb-suc-suc}
-use lib.IntN.{ℤ, pos, negsuc, ◌+ℤ◌, ◌-ℤ◌, sub_ℕ, nat_abs}
-use lib.Signed.{lt_z, le_z, mag, non_neg}
+use lib.Dec.{ltb, leb-zero, leb-suc-suc}
+use lib.IntN.{ℤ, pos, negsuc, ◌+ℤ◌, sub_ℕ}
+use lib.Signed.{lt_z, le_z, mag}
 use borrow.Author.Tests.{ltb-true, ltb-false, lt-ltb, le-ltb}
 use mir.Syntax.{w64}
 use mir.Val.{SFits}
@@ -17,15 +17,6 @@ use Rattle.clock.specs.Clock.{sumFits}
 -- no number of ℕ is negative
 not-negative : (n : ℕ) → ltb n 0 ≡ true → ⊥
 not-negative n h = let g = ltb-true n 0 h in omega arith
-
--- -1 - a is the magnitude of a negative a, and a of another
-pub neg-back : (a : ℤ) → lt_z a (pos 0) ≡ true → negsuc 0 -ℤ a ≡ pos (mag a)
-neg-back (pos n) h = absurd (not-negative n h)
-neg-back (negsuc n) h = rw (le-ltb (suc n) 1 (omega arith)) (ap pos (omega arith))
-
-pub pos-back : (a : ℤ) → lt_z a (pos 0) ≡ false → T (non_neg a) × (nat_abs a ≡ mag a)
-pos-back (pos n) h = (tt, refl)
-pos-back (negsuc n) h = absurd (clash true refl h)
 
 -- a difference is no larger than its parts
 sub-fits : (m a b : ℕ) → a < m → b ≤ m → ltb (mag (sub_ℕ a b)) m ≡ true

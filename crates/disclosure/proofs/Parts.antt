@@ -1,7 +1,7 @@
 -- A part s / w of a number p, by its quotient and its rest. Assumes nothing.
 use mathlib.Core.Path.{◌≡◌, sym, ◌∙◌, ap}
 use Prim.Native.Nat.{ℕ, zero, ◌+◌, ◌*◌, ◌/◌, ◌%◌, ◌<◌, ◌≤◌}
-use native.Mathlib.Nat.{mul-le-mul_right, mul-le-mul_left, mul_comm, mul_assoc, add-mul, mul-add-div_right, div-add-mod', div-mul-le_self, mod-lt, le_of_mul-le-mul_right, le_of_lt}
+use native.Mathlib.Nat.{mul-le-mul_left, mul_comm, mul_assoc, add-mul, mul-add-div_right, div-add-mod', div-mul-le_self, le_of_mul-le-mul_right}
 use native.Mathlib.Omega.{arith}
 
 module _ (p w s : ℕ) (pos : zero < w) where
@@ -18,9 +18,6 @@ module _ (p w s : ℕ) (pos : zero < w) where
   module _ (part : s ≤ w) where
     pub first-le : p / w * s ≤ p
     first-le = omega (arith, mul-le-mul_left (p / w) part, div-mul-le_self p w)
-
-    pub second-small : p % w * s ≤ w * w
-    second-small = omega (arith, mul-le-mul_left (p % w) part, mul-le-mul_right w (le_of_lt (mod-lt p pos)))
 
     second-le : p % w * s / w ≤ p % w
     second-le = le_of_mul-le-mul_right (omega (arith, div-mul-le_self (p % w * s) w, mul-le-mul_left (p % w) part)) pos

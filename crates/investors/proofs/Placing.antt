@@ -1,9 +1,9 @@
 -- Who stands at the places of the fills, as the code finds and stores it. Assumes nothing.
-use mathlib.Core.Path.{◌≡◌, ◌∙◌, ap}
+use mathlib.Core.Path.{◌≡◌, ◌∙◌}
 use mathlib.Core.Bool.{true, false, cond, not, ◌&&◌}
 use mathlib.Core.List.{List}
 use Prim.Native.Nat.{ℕ, ◌+◌, ◌*◌, ◌/◌, ◌<◌, ◌≤◌, min, zero-le}
-use native.Mathlib.Nat.{le_refl, le_of_lt, lt_of_le_of_lt, le_antisymm}
+use native.Mathlib.Nat.{le_refl, le_of_lt, lt_of_le_of_lt}
 use native.Mathlib.Decide.{ℕ_discrete}
 use native.Mathlib.Omega.{arith}
 use lib.Dec.{ltb, eqb}
@@ -76,9 +76,6 @@ module _ (orders : List Order) (n : ℕ) (fills : List Fill) (skipped : ℕ) whe
       → set out k v ≡ placesOf orders n fills skipped (k + 1)
   unfolding placesOf placeOf moved
   places-more out k v p h e = rw (p, e) (filled-more (placeOf orders n fills skipped) blankPlace (2 * maxFills) k h)
-
-  pub places-all : (out : List Place) (k e : ℕ) → out ≡ placesOf orders n fills skipped k → k ≤ e → e ≤ k → out ≡ placesOf orders n fills skipped e
-  places-all out k e p h g = p ∙ ap (placesOf orders n fills skipped) (le_antisymm h g)
 
 -- what is new at a place goes by the places up to it
 new-same : (P Q : ℕ → Place) (k : ℕ) → ((j : ℕ) → j ≤ k → P j ≡ Q j) → isNew P k ≡ isNew Q k

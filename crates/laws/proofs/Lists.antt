@@ -3,7 +3,7 @@ use mathlib.Core.Path.{◌≡◌, refl, sym, ap, ap₂, ◌∙◌, subst}
 use mathlib.Core.Logic.{◌≢◌, ◌↔◌, inl, inr, ⊎_elim}
 use mathlib.Core.Bool.{Bool, true, false, cond, ◌&&◌}
 use mathlib.Core.List.{List, [], ◌∷◌, map}
-use Prim.Native.Nat.{ℕ, zero, suc, ◌+◌, ◌≤◌, ◌<◌, zero-le}
+use Prim.Native.Nat.{ℕ, zero, suc, ◌+◌, ◌≤◌, ◌<◌}
 use native.Mathlib.Nat.{le_of_suc-le-suc, lt_of_lt_of_le, ne_of_lt}
 use native.Mathlib.Numerals.{add-one}
 use native.Mathlib.Omega.{arith}
@@ -147,9 +147,6 @@ same-ne l k q = go (same l k) refl
 -- a loop that compares two lists of length k: what is left decides
 abbrev pub SamePast : List ℕ → List ℕ → ℕ → ℕ → Type 0
 SamePast a b k i = (i ≤ k) × (same a b ≡ same (drop i a) (drop i b))
-
-pub same-start : (a b : List ℕ) (k : ℕ) → SamePast a b k 0
-same-start a b k = (zero-le, refl)
 
 module _ (a b : List ℕ) (k i : ℕ) (ha : length a ≡ k) (hb : length b ≡ k) where
   pub same-end : SamePast a b k i → k ≤ i → true ≡ same a b

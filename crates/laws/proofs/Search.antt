@@ -101,9 +101,6 @@ every-not p n i l e = go (every p n) refl
     go false h = refl
     go true h = sym e ∙ every-at p n i h l
 
-pub every-end : (p : ℕ → Bool) (n i : ℕ) → every p i ≡ true → i ≤ n → n ≤ i → true ≡ every p n
-every-end p n i e l k = sym e ∙ ap (every p) (le_antisymm l k)
-
 -- the same for a loop that looks for one place
 pub some-start : (p : ℕ → Bool) → some p 0 ≡ false
 unfolding some

@@ -7,11 +7,11 @@ use mathlib.Core.List.{List, [], ◌∷◌, ◌++◌, append_assoc}
 use Prim.Native.Nat.{ℕ, zero, suc, ◌+◌, ◌*◌, ◌/◌, ◌%◌, ◌^◌, ◌<◌, ◌≤◌}
 use native.Mathlib.Omega.{arith}
 use borrow.Author.Tests.{lt-ltb, le-ltb}
-use lib.ListN.{length, set, length-set, length-append}
+use lib.ListN.{length, set, length-append}
 use Rattle.laws.proofs.Tests.{lt-or-le}
 use Rattle.octets.specs.Decimal.{digits, decimal, maxDigits}
 use Rattle.octets.specs.Puts.{Puts}
-use Rattle.octets.proofs.Spliced.{puts-puts, puts-byte}
+use Rattle.octets.proofs.Spliced.{puts-byte}
 
 -- more room for digits changes nothing
 digits-enough : (k m x : ℕ) → x < k → x < m → digits k x ≡ digits m x
@@ -75,9 +75,3 @@ hundredth-digits x h fits =
 -- the only digit of a number
 pub puts-digit : (x d at : ℕ) (e : List ℕ) → x < 10 → d ≡ 48 + x % 10 → at < length e → Puts (decimal x) at (at + 1) e (set e at d)
 puts-digit x d at e h is fits = rw (decimal-one x h, ← is) (puts-byte at d e fits)
-
--- the last two, written one after the other
-pub puts-pair : (x d d' at : ℕ) (e : List ℕ) → d ≡ 48 + x / 10 % 10 → d' ≡ 48 + x % 10 → at + 2 ≤ length e → Puts (lastTwo x) at (at + 2) e (set (set e at d) (at + 1) d')
-puts-pair x d d' at e is is' fits =
-    let two : at + 2 ≡ at + 1 + 1 = omega arith in
-    rw (← is, ← is', two) (puts-puts (puts-byte at d e (omega arith)) (puts-byte (at + 1) d' (set e at d) (rw length-set (omega arith))) (omega arith))

@@ -1,6 +1,6 @@
 -- Numbers of several bytes, the lowest first: nothing past the end, and one byte more.
 -- Assumes nothing.
-use mathlib.Core.Path.{◌≡◌, refl, ap}
+use mathlib.Core.Path.{◌≡◌, refl}
 use mathlib.Core.Logic.{◌≢◌}
 use mathlib.Core.List.{List}
 use Prim.Native.Nat.{ℕ, zero, suc, ◌+◌, ◌*◌, ◌-◌, ◌^◌, ◌<◌, ◌≤◌}
@@ -33,20 +33,3 @@ module _ (k x w : ℕ) (some : k ≢ 0) where
   word-room small rest few =
       let h : 256 ^ k ≤ 256 ^ 8 = pow-le-pow_right (omega arith) few in
       omega (arith, word-below small rest)
-
--- a number of four or eight bytes, by its halves
-same-byte : (s : List ℕ) (i j : ℕ) → i ≡ j → get_or s i 0 ≡ get_or s j 0
-same-byte s i j e = ap (λ (n : ℕ). get_or s n 0) e
-
-pub word-four : (s : List ℕ) (at : ℕ) → word 4 s at ≡ word 2 s at + 65536 * word 2 s (at + 2)
-word-four s at = omega (arith, same-byte s (at + 1 + 1) (at + 2) (omega arith), same-byte s (at + 1 + 1 + 1) (at + 2 + 1) (omega arith))
-
-pub word-eight : (s : List ℕ) (at : ℕ) → word 8 s at ≡ word 4 s at + 4294967296 * word 4 s (at + 4)
-word-eight s at =
-    omega (
-      arith,
-      same-byte s (at + 1 + 1 + 1 + 1) (at + 4) (omega arith),
-      same-byte s (at + 1 + 1 + 1 + 1 + 1) (at + 4 + 1) (omega arith),
-      same-byte s (at + 1 + 1 + 1 + 1 + 1 + 1) (at + 4 + 1 + 1) (omega arith),
-      same-byte s (at + 1 + 1 + 1 + 1 + 1 + 1 + 1) (at + 4 + 1 + 1 + 1) (omega arith),
-    )

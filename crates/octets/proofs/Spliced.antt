@@ -40,9 +40,6 @@ puts-puts {p} {q} {at} {r} {s} {e} {e'} {e''} w v h = record {
 pub puts-byte : (r v : ℕ) (e : List ℕ) → r < length e → Puts (v ∷ []) r (r + 1) e (set e r v)
 puts-byte r v e h = record { place = refl; bytes = rw (set_split e r v h, add-one) }
 
-pub puts-start : (at : ℕ) (e : List ℕ) → Puts [] at (at + 0) e e
-puts-start at e = rw (add-zero at) (puts-none at e)
-
 -- a byte of a text after those before it
 pub puts-next : (i at : ℕ) (w : List ℕ) {e e' : List ℕ} → Puts (take i w) at (at + i) e e' → i < length w → at + i < length e' → at ≤ length e
     → Puts (take (i + 1) w) at (at + (i + 1)) e (set e' (at + i) (get_or w i 0))

@@ -105,11 +105,8 @@ abbrev Tried : List Bool → List ℕ → List ℕ → (reserve reference p : �
 Tried isBuy limits qtys reserve reference p k k' =
     (best k' ≡ step (counts isBuy limits qtys reserve) (better isBuy limits qtys reference) (best k) p) × AllQuoted isBuy limits qtys k'
 
--- below the reserve nothing changes, else it is quoted
+-- not below the reserve it is quoted
 module _ (isBuy : List Bool) (limits qtys : List ℕ) (reserve reference p : ℕ) (k : Kept) (a : AllQuoted isBuy limits qtys k) where
-  pub tried-below : p < reserve → Tried isBuy limits qtys reserve reference p k k
-  tried-below h = rw (lt-leb reserve p h) (refl, a)
-
   pub tried-quote : {k' : Kept} (q : Quote) → (q.price ≡ p) × Quoted isBuy limits qtys q → k' ≡ after k q reserve reference → Tried isBuy limits qtys reserve reference p k k'
   tried-quote q f e = rw (e, sym f.0) (after-step isBuy limits qtys reserve reference q f.1 k a)
 

@@ -1,12 +1,7 @@
 -- The product of two numbers of two digits, column by column, to any base.
 -- Assumes nothing.
-use Rattle.std.proofs.Common.{◌≡◌, ℕ, ◌+◌, ◌*◌, ◌/◌, ◌%◌, ◌<◌, sym, ap, ◌∙◌, le_of_lt, mul_assoc, add-mul, add_comm, lt_of_mul-lt-mul_right, mul-le-mul_left, div-add-mod', mul-add, mul_right_comm, arith}
+use Rattle.std.proofs.Common.{◌≡◌, ℕ, ◌+◌, ◌*◌, ◌/◌, ◌%◌, sym, ap, ◌∙◌, mul_assoc, add-mul, add_comm, div-add-mod', mul-add, mul_right_comm, arith}
 use native.Mathlib.Nat.{mul-mul-mul_comm}
-use Rattle.wide.proofs.Laws.{above}
-
--- a product of two digits and a digit have two digits
-pub column-short : (b : ℕ) {x y c : ℕ} → x < b → y < b → c < b → x * y + c < b * b
-column-short b {x} {y} {c} p q r = omega (arith, mul-le-mul_left x (le_of_lt q), above b p)
 
 module _ (b u1 u0 v1 v0 q0 r0 q1 r1 q2 r2 : ℕ) where
   -- the three columns with their carries
@@ -29,10 +24,6 @@ module _ (b u1 u0 v1 v0 q0 r0 q1 r1 q2 r2 : ℕ) where
         sym (mul_assoc u0 v1 b),
       )
 
--- a product of two digits has two digits
-pub product-short : (b : ℕ) {x y : ℕ} → x < b → y < b → x * y < b * b
-product-short b {x} {y} p q = omega (arith, column-short b {x = x} {y = y} {c = 0} p q (omega arith))
-
 -- what the columns come to, for u and v of two digits
 module _ (b u v : ℕ) where
   abbrev w : ℕ
@@ -53,6 +44,3 @@ module _ (b u v : ℕ) where
       columns b (u / b) (u % b) (v / b) (v % b) (w / b) (w % b) (t / b) (t % b) (s / b) (s % b)
       (div-add-mod' w b) (div-add-mod' t b) (div-add-mod' s b ∙ add_comm (u % b * (v / b)) (t % b))
       ∙ ap (λ (n : ℕ). n * (v / b * b + v % b)) (div-add-mod' u b) ∙ ap (λ (n : ℕ). u * n) (div-add-mod' v b)
-
-  pub upper-fits : (m : ℕ) → b * b ≡ m → u < m → v < m → upper < m
-  upper-fits m e p q = lt_of_mul-lt-mul_right m (omega (arith, whole, ap (λ (n : ℕ). upper * n) e, product-short m p q))

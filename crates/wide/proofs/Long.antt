@@ -1,6 +1,6 @@
 -- Laws of long division in binary.
 -- Assumes nothing.
-use Rattle.std.proofs.Common.{◌≡◌, ℕ, zero, ◌+◌, ◌-◌, ◌*◌, ◌/◌, ◌%◌, ◌^◌, ◌<◌, ◌≤◌, sym, ap, ◌∙◌, subst, mul-le-mul_right, mul_assoc, suc-mul, mul_comm, add-mul, add_comm, lt_of_mul-lt-mul_right, div-add-mod', zero-mul, le-mul_of_pos_right, div-one, add-one, arith, pow_pos, pow-add, shr-shr}
+use Rattle.std.proofs.Common.{◌≡◌, ℕ, zero, ◌+◌, ◌-◌, ◌*◌, ◌/◌, ◌%◌, ◌^◌, ◌<◌, ◌≤◌, sym, ap, ◌∙◌, subst, mul-le-mul_right, mul_assoc, suc-mul, mul_comm, add-mul, add_comm, lt_of_mul-lt-mul_right, div-add-mod', zero-mul, div-one, add-one, arith, pow_pos, pow-add, shr-shr}
 use native.Mathlib.Nat.{div-eq_of_lt, add-mul-div_right}
 use lib.Pow.{high}
 use lib.Arith.{digits_lt}
@@ -84,13 +84,6 @@ module _ (q r d b s : ℕ) (down : s ≡ 2 * r + b) where
   -- it goes into s: the next digit is 1
   pub digit-one : (q' r' : ℕ) → d ≤ s → q' ≡ 2 * q + 1 → r' ≡ s - d → q' * d + r' ≡ 2 * (q * d + r) + b
   digit-one q' r' g e f = omega (arith, mul-two q d, ap (λ (n : ℕ). n * d) e, ap (λ (n : ℕ). n * d) (add-one (2 * q)), suc-mul (2 * q) d)
-
-  -- the quotient is no larger than the number so far
-  pub quotient-zero : (m : ℕ) → zero < d → 2 * (q * d + r) + b < m → 2 * q + 0 < m
-  quotient-zero m p h = omega (arith, le-mul_of_pos_right q p)
-
-  pub quotient-one : (m : ℕ) → zero < d → d ≤ s → 2 * (q * d + r) + b < m → 2 * q + 1 < m
-  quotient-one m p g h = omega (arith, le-mul_of_pos_right q p)
 
 -- and the remainder stays below the divisor
 pub rest-below : (r d b s r' : ℕ) → s ≡ 2 * r + b → r < d → b < 2 → r' ≡ s - d → r' < d

@@ -1,18 +1,11 @@
 -- Laws of quotient and remainder: where they are found at once, and at the end of a long division.
 -- Assumes nothing.
-use Rattle.std.proofs.Common.{◌≡◌, ℕ, ◌+◌, ◌-◌, ◌*◌, ◌/◌, ◌%◌, ◌<◌, ◌≤◌, sym, ap, ◌∙◌, mod-eq_of_lt, arith}
-use native.Mathlib.Nat.{div-zero, mod-zero, div-eq_of_lt}
+use Rattle.std.proofs.Common.{◌≡◌, ℕ, ◌+◌, ◌-◌, ◌*◌, ◌/◌, ◌%◌, ◌<◌, ◌≤◌, sym, ap, ◌∙◌, arith}
 use lib.Arith.{digits_div, digits_mod}
 use Rattle.wide.specs.declared.Division.{Division}
 use Rattle.wide.specs.Value.{value, Divided}
 
 module _ (n d : ℕ) (r : Division) where
-  pub by-zero : d ≡ 0 → value r.quotient ≡ 0 → value r.rest ≡ n → Divided n d r
-  by-zero e p q = record { quotient = rw (e, div-zero n) p; rest = rw (e, mod-zero n) q }
-
-  pub of-smaller : n < d → value r.quotient ≡ 0 → value r.rest ≡ n → Divided n d r
-  of-smaller h p q = record { quotient = p ∙ sym (div-eq_of_lt h); rest = q ∙ sym (mod-eq_of_lt h) }
-
   -- a multiple of d and a remainder below d make n
   pub of-parts : value r.rest < d → value r.quotient * d + value r.rest ≡ n → Divided n d r
   of-parts h e = record {

@@ -5,11 +5,23 @@ use Rattle.clock.proofs.Laws.{sum-sfits, past-sum}
 use Rattle.clock.proofs.before_sum.Goals as goal
 
 pub overflow_add-end : goal.overflow_add-end
-overflow_add-end c = rw (to_z-of_z c.ranges.a, to_z-of_z c.ranges.b) (sum-sfits _ _ (rw (to_z-of_z c.ranges.a, to_z-of_z c.ranges.b) at (sym c.sum_fits.ensures ∙ c.if-sum_fits.true)))
+overflow_add-end c =
+    let a = to_z-of_z c.ranges.a in
+    let b = to_z-of_z c.ranges.b in
+    let fits = rw (a, b) at (sym c.sum_fits.ensures ∙ c.if-sum_fits.true) in
+    rw (a, b) (sum-sfits _ _ fits)
 
 pub returns-then-sum_fits : goal.returns-then-sum_fits
-returns-then-sum_fits c = rw (to_z-of_z c.ranges.a, to_z-of_z c.ranges.b, to_z-of_z c.ranges.now, to_z-of_z (sum-sfits _ _ (rw (to_z-of_z c.ranges.a, to_z-of_z c.ranges.b) at (sym c.sum_fits.ensures ∙ c.if-sum_fits.true))))
+returns-then-sum_fits c =
+    let a = to_z-of_z c.ranges.a in
+    let b = to_z-of_z c.ranges.b in
+    let now = to_z-of_z c.ranges.now in
+    let fits = rw (a, b) at (sym c.sum_fits.ensures ∙ c.if-sum_fits.true) in
+    rw (a, b, now, to_z-of_z (sum-sfits _ _ fits))
 
 pub returns : goal.returns
 returns c =
-    rw (to_z-of_z c.ranges.a) (past-sum c.args.now c.args.a c.args.b c.ranges.now.sfits c.ranges.a.sfits c.ranges.b.sfits (rw (to_z-of_z c.ranges.a, to_z-of_z c.ranges.b) at (sym c.sum_fits.ensures ∙ c.if-sum_fits.false)))
+    let a = to_z-of_z c.ranges.a in
+    let b = to_z-of_z c.ranges.b in
+    let fits = rw (a, b) at (sym c.sum_fits.ensures ∙ c.if-sum_fits.false) in
+    rw a (past-sum c.args.now c.args.a c.args.b c.ranges.now.sfits c.ranges.a.sfits c.ranges.b.sfits fits)

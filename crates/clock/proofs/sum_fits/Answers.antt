@@ -5,16 +5,24 @@ use Rattle.clock.proofs.sum_fits.Goals as goal
 
 pub returns-then-b-lt0 : goal.returns-then-b-lt0
 returns-then-b-lt0 c =
-    rw ((rw (to_z-of_z c.ranges.a) at c.magnitude-x.ensures), (rw (to_z-of_z c.ranges.b) at c.magnitude-y.ensures)) (both-neg c.args.a c.args.b (rw (to_z-of_z c.ranges.a) at c.if-a-lt0.true) (rw (to_z-of_z c.ranges.b) at c.if-b-lt0.true))
+    let a = to_z-of_z c.ranges.a in
+    let b = to_z-of_z c.ranges.b in
+    rw (rw a at c.magnitude-x.ensures, rw b at c.magnitude-y.ensures) (both-neg c.args.a c.args.b (rw a at c.if-a-lt0.true) (rw b at c.if-b-lt0.true))
 
 pub returns-then-a-lt0 : goal.returns-then-a-lt0
 returns-then-a-lt0 c =
-    neg-pos c.args.a c.args.b c.ranges.a.sfits c.ranges.b.sfits (rw (to_z-of_z c.ranges.a) at c.if-a-lt0.true) (rw (to_z-of_z c.ranges.b) at c.if-b-lt0.false)
+    let a = to_z-of_z c.ranges.a in
+    let b = to_z-of_z c.ranges.b in
+    neg-pos c.args.a c.args.b c.ranges.a.sfits c.ranges.b.sfits (rw a at c.if-a-lt0.true) (rw b at c.if-b-lt0.false)
 
 pub returns-then-b-lt0-2 : goal.returns-then-b-lt0-2
 returns-then-b-lt0-2 c =
-    pos-neg c.args.a c.args.b c.ranges.a.sfits c.ranges.b.sfits (rw (to_z-of_z c.ranges.a) at c.if-a-lt0.false) (rw (to_z-of_z c.ranges.b) at c.if-b-lt0-2.true)
+    let a = to_z-of_z c.ranges.a in
+    let b = to_z-of_z c.ranges.b in
+    pos-neg c.args.a c.args.b c.ranges.a.sfits c.ranges.b.sfits (rw a at c.if-a-lt0.false) (rw b at c.if-b-lt0-2.true)
 
 pub returns : goal.returns
 returns c =
-    rw ((rw (to_z-of_z c.ranges.a) at c.magnitude-x.ensures), (rw (to_z-of_z c.ranges.b) at c.magnitude-y.ensures)) (both-pos c.args.a c.args.b (rw (to_z-of_z c.ranges.a) at c.if-a-lt0.false) (rw (to_z-of_z c.ranges.b) at c.if-b-lt0-2.false))
+    let a = to_z-of_z c.ranges.a in
+    let b = to_z-of_z c.ranges.b in
+    rw (rw a at c.magnitude-x.ensures, rw b at c.magnitude-y.ensures) (both-pos c.args.a c.args.b (rw a at c.if-a-lt0.false) (rw b at c.if-b-lt0-2.false))

@@ -9,17 +9,28 @@ use Rattle.wide.proofs.Words.{word-low, value-below}
 use Rattle.wide.proofs.divide.Goals as goal
 
 pub word_division-requires : goal.word_division-requires
-word_division-requires c = rw ((word-low _ (lt_of_le_of_lt (ltb-false _ _ (sym c.less.ensures ∙ c.if-less.false)) (ltb-true _ _ (sym c.fits_word.ensures ∙ c.if-fits_word.true))))) (omega (arith, eqb-false (value c.args.d) 0 (sym c.is_zero.ensures ∙ c.if-is_zero.false)))
+word_division-requires c =
+    let small = ltb-true _ _ (sym c.fits_word.ensures ∙ c.if-fits_word.true) in
+    let goes = ltb-false _ _ (sym c.less.ensures ∙ c.if-less.false) in
+    let some = eqb-false (value c.args.d) 0 (sym c.is_zero.ensures ∙ c.if-is_zero.false) in
+    rw (word-low _ (lt_of_le_of_lt goes small)) (omega (arith, some))
 
 pub returns-then-fits_word : goal.returns-then-fits_word
-returns-then-fits_word c = rw (sym (word-low _ (ltb-true _ _ (sym c.fits_word.ensures ∙ c.if-fits_word.true))), sym ((word-low _ (lt_of_le_of_lt (ltb-false _ _ (sym c.less.ensures ∙ c.if-less.false)) (ltb-true _ _ (sym c.fits_word.ensures ∙ c.if-fits_word.true)))))) c.word_division.ensures
+returns-then-fits_word c =
+    let small = ltb-true _ _ (sym c.fits_word.ensures ∙ c.if-fits_word.true) in
+    let goes = ltb-false _ _ (sym c.less.ensures ∙ c.if-less.false) in
+    rw (sym (word-low _ small), sym (word-low _ (lt_of_le_of_lt goes small))) c.word_division.ensures
 
 pub returns-then-d-ge9223372036854775808 : goal.returns-then-d-ge9223372036854775808
 unfolding modulus value
 returns-then-d-ge9223372036854775808 c =
-    once _ _ _ (ltb-false _ _ (sym c.less.ensures ∙ c.if-less.false)) (lt_of_lt_of_le (value-below c.args.n (omega arith) (omega arith)) (half-above (2 ^ 63) _ _ c.if-d-ge9223372036854775808.true)) c.of_word-then-d-ge9223372036854775808.ensures c.sub.ensures
+    let goes = ltb-false _ _ (sym c.less.ensures ∙ c.if-less.false) in
+    let large = half-above (2 ^ 63) _ _ c.if-d-ge9223372036854775808.true in
+    let below = lt_of_lt_of_le (value-below c.args.n (omega arith) (omega arith)) large in
+    once _ _ _ goes below c.of_word-then-d-ge9223372036854775808.ensures c.sub.ensures
 
 pub long_division-requires : goal.long_division-requires
 unfolding modulus value
 long_division-requires c =
-    ((omega (arith, eqb-false (value c.args.d) 0 (sym c.is_zero.ensures ∙ c.if-is_zero.false))), half-below (2 ^ 63) _ _ (omega arith) c.if-d-ge9223372036854775808.false)
+    let some = eqb-false (value c.args.d) 0 (sym c.is_zero.ensures ∙ c.if-is_zero.false) in
+    (omega (arith, some), half-below (2 ^ 63) _ _ (omega arith) c.if-d-ge9223372036854775808.false)

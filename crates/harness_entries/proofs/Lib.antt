@@ -1,2 +1,0 @@
--- Laws of the entries.
-pub mod Rows
