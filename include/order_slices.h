@@ -1,4 +1,4 @@
-/* The price search and pro-rata on records, by the proved library liborder_slices.a (made by `rt staticlib order_slices`).
+/* The price search and pro-rata on records, by the proved library liborder_slices.a (made by `harness/run library order_slices`).
    docs/PROMISES.md leads to what each promises.
 
    Stack: give the calling thread 32 KiB or more. Measured by harness/c/stack.c on x86-64 Linux: with 16 records either function runs on a

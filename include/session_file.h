@@ -1,4 +1,4 @@
-/* Session files, cleared by the proved library libsession_file.a (made by `rt staticlib session_file`).
+/* Session files, cleared by the proved library libsession_file.a (made by `harness/run library session_file`).
    docs/SESSION-FILE.md describes the file and its listing. */
 #ifndef SESSION_FILE_H
 #define SESSION_FILE_H

@@ -1,4 +1,5 @@
 /* Prints the listing of a session file.
+   harness/run library session_file
    cc -O2 -Iinclude harness/c/example.c target/staticlib/libsession_file.a -o target/example && target/example examples/case-l.session */
 #include "session_file.h"
 #include <stdio.h>

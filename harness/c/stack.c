@@ -1,6 +1,6 @@
 /* How much stack a call needs: the smallest thread on which it runs, found by trying smaller and smaller ones until one crashes.
 
-     rt staticlib session_file && rt staticlib order_slices
+     harness/run library session_file && harness/run library order_slices
      cc -O2 -pthread -Iinclude harness/c/stack.c target/staticlib/libsession_file.a target/staticlib/liborder_slices.a -o target/stack
      target/stack [FILE...]
 

@@ -9,7 +9,7 @@
 //! assert_eq!(listing, b"0 refused 2\nend none\n");
 //! ```
 //!
-//! The static libraries are made by `rt staticlib session_file` and `rt staticlib order_slices`, at the top of the repository.
+//! The static libraries are made by `harness/run library session_file` and `harness/run library order_slices`.
 mod allocation;
 mod entry;
 mod refusal;

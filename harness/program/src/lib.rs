@@ -20,10 +20,10 @@ pub fn from_root(path: &str) -> PathBuf {
     Path::new(env!("CARGO_MANIFEST_DIR")).join("../..").join(path)
 }
 
-/// Where `rt check clearing` puts it.
+/// Where `rt run` in crates/clearing puts it.
 pub fn path() -> PathBuf {
-    let built = from_root("target/bin/clearing");
-    assert!(built.exists(), "no {}: `rt check clearing` makes it", built.display());
+    let built = from_root("crates/clearing/out/clearing");
+    assert!(built.exists(), "no {}: `rt run` in crates/clearing makes it", built.display());
     built
 }
 
