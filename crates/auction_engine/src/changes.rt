@@ -27,8 +27,8 @@ pub struct Change {
 
 impl Session {
     // What an order that a file lists changes, or else the call that a record says.
-    pub fn change(self, order: bool, cover: Cover, row: Row, call: CallRecord) -> Change
-        ensures { result ≡ recordChange self order cover row call }
+    pub fn change(&self, order: bool, cover: Cover, row: Row, call: CallRecord) -> Change
+        ensures { result ≡ recordChange self.now order cover row call }
     {
         if order {
             return opening::order_change(self, cover, row);
@@ -58,8 +58,8 @@ impl Session {
     }
 
     // Refused by that number, or undecided.
-    pub(crate) fn early(self, refusal: u8) -> Change
-        ensures { result ≡ early self refusal }
+    pub(crate) fn early(&self, refusal: u8) -> Change
+        ensures { result ≡ early self.now refusal }
     {
         let mut c = self.unchanged(refusal);
         c.undecided = refusal == 0;
@@ -67,8 +67,8 @@ impl Session {
     }
 
     // Nothing is changed; the refusal is the caller's.
-    pub(crate) fn unchanged(self, refusal: u8) -> Change
-        ensures { result ≡ unchanged self refusal }
+    pub(crate) fn unchanged(&self, refusal: u8) -> Change
+        ensures { result ≡ unchanged self.now refusal }
     {
         let mut c = self.keeping(EventPair::none());
         c.refusal = refusal;
@@ -76,8 +76,8 @@ impl Session {
     }
 
     // What stands at the first order and the first fill, and what is said.
-    pub(crate) fn keeping(self, events: EventPair) -> Change
-        ensures { result ≡ keeping self 0 events }
+    pub(crate) fn keeping(&self, events: EventPair) -> Change
+        ensures { result ≡ keeping self.now 0 events }
     {
         let orders = self.orders;
         let fills = self.fills;
@@ -99,8 +99,8 @@ impl Session {
     }
 
     // Another phase.
-    pub(crate) fn phase_change(self, to: u8, events: EventPair) -> Change
-        ensures { result ≡ keeping (atPhase self to) 0 events }
+    pub(crate) fn phase_change(&self, to: u8, events: EventPair) -> Change
+        ensures { result ≡ keeping (atPhase self.now to) 0 events }
     {
         let mut c = self.keeping(events);
         c.phase = to;

@@ -38,8 +38,8 @@ impl Session {
     }
 
     // Refused for sure by its window or its phase; else undecided.
-    pub(crate) fn clear_change(self, now: i64) -> Change
-        ensures { result ≡ changeOf self (call.clear now) }
+    pub(crate) fn clear_change(&self, now: i64) -> Change
+        ensures { result ≡ changeOf self.now (call.clear now) }
     {
         if both(self.in_window(now), crate::admits(self.phase, crate::CLEAR)) {
             return self.early(0);
@@ -48,8 +48,8 @@ impl Session {
     }
 
     // All checks but the last, 17, which the outcome has.
-    fn clear_refusal(self, now: i64) -> u8
-        ensures { result ≡ limitsRefusal self then fieldsRefusal self then clearChecks self now }
+    fn clear_refusal(&self, now: i64) -> u8
+        ensures { result ≡ limitsRefusal self.now then fieldsRefusal self.now then clearChecks self.now now }
     {
         let bad = self.checked();
         if bad != 0 {
@@ -109,8 +109,8 @@ impl Session {
     }
 
     // The clear, or why it failed, and the change of phase.
-    fn clear_events(self, found: Outcome) -> Events
-        ensures { result ≡ packed (clearLines self found) }
+    fn clear_events(&self, found: Outcome) -> Events
+        ensures { result ≡ packed (clearLines self.now found) }
     {
         let p = self.params;
         let g = self.given;

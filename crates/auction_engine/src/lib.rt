@@ -191,8 +191,8 @@ impl Session {
     }
 
     // What refuses a record of a kind above 8.
-    pub(crate) fn no_such_call(self) -> u8
-        ensures { result ≡ limitsRefusal self then 4 }
+    pub(crate) fn no_such_call(&self) -> u8
+        ensures { result ≡ limitsRefusal self.now then 4 }
     {
         first_of(self.limits_refusal(), refusals::BAD_FIELD)
     }
@@ -280,8 +280,8 @@ fn not_ended(phase: u8) -> bool
 
 impl Session {
     // What any call checks first: 9, then 4 for a field of the session.
-    fn checked(self) -> u8
-        ensures { result ≡ limitsRefusal self then fieldsRefusal self }
+    fn checked(&self) -> u8
+        ensures { result ≡ limitsRefusal self.now then fieldsRefusal self.now }
     {
         let over = self.limits_refusal();
         if over != 0 {
@@ -291,8 +291,8 @@ impl Session {
     }
 
     // 9: a count or a figure above its limit.
-    fn limits_refusal(self) -> u8
-        ensures { result ≡ limitsRefusal self }
+    fn limits_refusal(&self) -> u8
+        ensures { result ≡ limitsRefusal self.now }
     {
         let p = self.params;
         let g = self.given;
@@ -314,9 +314,9 @@ impl Session {
     }
 
     // 4: a field of the session outside its values.
-    fn fields_refusal(self) -> u8
-        requires { self.order_count ≤ maxOrders }
-        ensures { result ≡ fieldsRefusal self }
+    fn fields_refusal(&self) -> u8
+        requires { self.now.order_count ≤ maxOrders }
+        ensures { result ≡ fieldsRefusal self.now }
     {
         let g = self.given;
         let orders = self.orders;
@@ -327,8 +327,8 @@ impl Session {
     }
 
     // From the end of the reveals up to, without, the deadline.
-    fn in_window(self, now: i64) -> bool
-        ensures { result ≡ inWindow self now }
+    fn in_window(&self, now: i64) -> bool
+        ensures { result ≡ inWindow self.now now }
     {
         let p = self.params;
         both(

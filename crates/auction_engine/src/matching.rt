@@ -48,8 +48,8 @@ impl Session {
     }
 
     // Refused for sure by its phase; else undecided.
-    pub(crate) fn allocate_change(self) -> Change
-        ensures { result ≡ early self (only (not (call.admits self.phase call.allocateKind)) (allocateChecks self)) }
+    pub(crate) fn allocate_change(&self) -> Change
+        ensures { result ≡ early self.now (only (not (call.admits self.now.phase call.allocateKind)) (allocateChecks self.now)) }
     {
         if crate::admits(self.phase, crate::ALLOCATE) {
             return self.early(0);
@@ -58,8 +58,8 @@ impl Session {
     }
 
     // All checks but the last, 18, which the fills have.
-    fn allocate_refusal(self) -> u8
-        ensures { result ≡ allocateChecks self }
+    fn allocate_refusal(&self) -> u8
+        ensures { result ≡ allocateChecks self.now }
     {
         let bad = self.checked();
         let phase = unless(
@@ -112,8 +112,8 @@ impl Session {
     }
 
     // IssuerRofr with an authority, else Settling.
-    fn phase_after(self) -> u8
-        ensures { result ≡ phaseAfter self }
+    fn phase_after(&self) -> u8
+        ensures { result ≡ phaseAfter self.now }
     {
         let p = self.params;
         let authority = p.rofr_authority;

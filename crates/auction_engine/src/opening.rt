@@ -74,8 +74,8 @@ fn end_refusal(p: Params) -> u8
 }
 
 // What refuses the row by itself; 7 seventeenth; 8 owner seen.
-pub fn order_refusal(s: Session, cover: Cover, row: Row) -> u8
-    ensures { result ≡ orderRefusal s cover row }
+pub fn order_refusal(s: &Session, cover: Cover, row: Row) -> u8
+    ensures { result ≡ orderRefusal s.now cover row }
 {
     let full = unless(s.order_count < Session::MAX_ORDERS, refusals::ORDERS_FULL);
     let refusal = first_of(row_refusal(cover, row), full);
@@ -128,8 +128,8 @@ fn owner_seen(orders: [Order; Session::MAX_ORDERS], n: usize, owner: [u8; 32]) -
 }
 
 // What one order more changes, or the number that refuses it.
-pub(crate) fn order_change(s: Session, cover: Cover, row: Row) -> Change
-    ensures { result ≡ orderChange s cover row }
+pub(crate) fn order_change(s: &Session, cover: Cover, row: Row) -> Change
+    ensures { result ≡ orderChange s.now cover row }
 {
     let refusal = order_refusal(s, cover, row);
     let mut c = s.unchanged(refusal);

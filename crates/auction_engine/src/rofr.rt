@@ -43,8 +43,8 @@ impl Session {
     }
 
     // Refused for sure by its phase or its window; else undecided.
-    pub(crate) fn exercise_change(self, now: i64, issuer: [u8; 32], fill: u32, qty: u64) -> Change
-        ensures { result ≡ changeOf self (call.exercise now issuer fill qty) }
+    pub(crate) fn exercise_change(&self, now: i64, issuer: [u8; 32], fill: u32, qty: u64) -> Change
+        ensures { result ≡ changeOf self.now (call.exercise now issuer fill qty) }
     {
         if both(
             crate::admits(self.phase, crate::EXERCISE),
@@ -55,8 +55,8 @@ impl Session {
         self.early(self.exercise_refusal(now, issuer, fill, qty))
     }
 
-    fn exercise_refusal(self, now: i64, issuer: [u8; 32], fill: u32, qty: u64) -> u8
-        ensures { result ≡ refusal self (call.exercise now issuer fill qty) }
+    fn exercise_refusal(&self, now: i64, issuer: [u8; 32], fill: u32, qty: u64) -> u8
+        ensures { result ≡ refusal self.now (call.exercise now issuer fill qty) }
     {
         let bad = self.checked();
         if bad != 0 {
@@ -81,12 +81,12 @@ impl Session {
     }
 
     // 21 no fill, or already rofr or settled; 22 qty above the fill.
-    fn take_refusal(self, at: usize, qty: u64) -> u8
-        requires { self.fill_count ≤ maxFills }
-        ensures { result ≡ unless (ltb at self.fill_count) 21
-            then unless (not (fillAt self at).rofr) 21
-            then unless (not (fillAt self at).settled) 21
-            then unless (leb qty (fillAt self at).qty) 22 }
+    fn take_refusal(&self, at: usize, qty: u64) -> u8
+        requires { self.now.fill_count ≤ maxFills }
+        ensures { result ≡ unless (ltb at self.now.fill_count) 21
+            then unless (not (fillAt self.now at).rofr) 21
+            then unless (not (fillAt self.now at).settled) 21
+            then unless (leb qty (fillAt self.now at).qty) 22 }
     {
         if self.fill_count <= at {
             return refusals::NO_FILL;
@@ -127,15 +127,15 @@ impl Session {
     }
 
     // Before the end of the issuer's window.
-    fn before_rofr_end(self, now: i64) -> bool
-        ensures { result ≡ lt_z now (rofrEnd self) }
+    fn before_rofr_end(&self, now: i64) -> bool
+        ensures { result ≡ lt_z now (rofrEnd self.now) }
     {
         let p = self.params;
         clock::before_sum(now, p.reveal_end, p.rofr_window)
     }
 
-    fn is_authority(self, who: [u8; 32]) -> bool
-        ensures { result ≡ same who self.params.rofr_authority }
+    fn is_authority(&self, who: [u8; 32]) -> bool
+        ensures { result ≡ same who self.now.params.rofr_authority }
     {
         let p = self.params;
         let authority = p.rofr_authority;
@@ -150,8 +150,8 @@ impl Session {
         self.made(c)
     }
 
-    pub(crate) fn close_change(self, now: i64, caller: [u8; 32]) -> Change
-        ensures { result ≡ changeOf self (call.close now caller) }
+    pub(crate) fn close_change(&self, now: i64, caller: [u8; 32]) -> Change
+        ensures { result ≡ changeOf self.now (call.close now caller) }
     {
         let refusal = self.close_refusal(now, caller);
         if refusal != 0 {
@@ -165,8 +165,8 @@ impl Session {
         self.phase_change(crate::SETTLING, EventPair::two(closed, moved))
     }
 
-    fn close_refusal(self, now: i64, caller: [u8; 32]) -> u8
-        ensures { result ≡ refusal self (call.close now caller) }
+    fn close_refusal(&self, now: i64, caller: [u8; 32]) -> u8
+        ensures { result ≡ refusal self.now (call.close now caller) }
     {
         let bad = self.checked();
         if bad != 0 {

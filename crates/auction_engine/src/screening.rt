@@ -36,7 +36,7 @@ impl Session {
     }
 
     pub(crate) fn screen_change(
-        self,
+        &self,
         now: i64,
         order: u8,
         side: u8,
@@ -44,7 +44,7 @@ impl Session {
         has_id: bool,
         id: [u8; 16],
     ) -> Change
-        ensures { result ≡ changeOf self (call.screen now order side verdict has_id id) }
+        ensures { result ≡ changeOf self.now (call.screen now order side verdict has_id id) }
     {
         let argument = arguments_refusal(side, verdict, has_id, id);
         let early = first_of(
@@ -69,8 +69,8 @@ impl Session {
     }
 
     // The order at a place; the first, where the array has no such place.
-    fn order_at(self, i: usize) -> Order
-        ensures { result ≡ orderAt self (placeOf maxOrders i) }
+    fn order_at(&self, i: usize) -> Order
+        ensures { result ≡ orderAt self.now (placeOf maxOrders i) }
     {
         let orders = self.orders;
         if i < Session::MAX_ORDERS {
@@ -80,8 +80,8 @@ impl Session {
     }
 
     // 11 outside the window; 10 the phase.
-    fn screening_refusal(self, now: i64) -> u8
-        ensures { result ≡ unless (inWindow self now) 11 then unless (admits self.phase screenKind) 10 }
+    fn screening_refusal(&self, now: i64) -> u8
+        ensures { result ≡ unless (inWindow self.now now) 11 then unless (admits self.now.phase screenKind) 10 }
     {
         let window = unless(self.in_window(now), refusals::OUTSIDE_WINDOW);
         let phase = unless(
@@ -92,12 +92,12 @@ impl Session {
     }
 
     // 12 no such order; 13 side; 14 not revealed; 15 screened.
-    fn order_refusal(self, i: usize, side: u8, o: Order) -> u8
-        requires { (self.order_count ≤ maxOrders) × (i < maxOrders → o ≡ orderAt self i) }
-        ensures { result ≡ unless (ltb i self.order_count) 12
-            then unless (eqb (orderAt self i).side side) 13
-            then unless (orderAt self i).revealed 14
-            then unless (not (orderAt self i).screened) 15 }
+    fn order_refusal(&self, i: usize, side: u8, o: Order) -> u8
+        requires { (self.now.order_count ≤ maxOrders) × (i < maxOrders → o ≡ orderAt self.now i) }
+        ensures { result ≡ unless (ltb i self.now.order_count) 12
+            then unless (eqb (orderAt self.now i).side side) 13
+            then unless (orderAt self.now i).revealed 14
+            then unless (not (orderAt self.now i).screened) 15 }
     {
         if self.order_count <= i {
             return refusals::NO_ORDER;
@@ -109,8 +109,8 @@ impl Session {
     }
 
     // A verdict other than 0 is the exclusion; with verdict 0 and an id, the investor's other orders decide.
-    fn exclusion_of(self, i: usize, verdict: u8, has_id: bool, id: [u8; 16]) -> u8
-        ensures { result ≡ exclusionOf self i verdict has_id id }
+    fn exclusion_of(&self, i: usize, verdict: u8, has_id: bool, id: [u8; 16]) -> u8
+        ensures { result ≡ exclusionOf self.now i verdict has_id id }
     {
         if verdict != 0 {
             return verdict;

@@ -34,8 +34,8 @@ impl Session {
         self.made(c)
     }
 
-    pub(crate) fn settle_change(self, fill: u32) -> Change
-        ensures { result ≡ changeOf self (call.settle fill) }
+    pub(crate) fn settle_change(&self, fill: u32) -> Change
+        ensures { result ≡ changeOf self.now (call.settle fill) }
     {
         let phase = unless(
             crate::admits(self.phase, crate::SETTLE),
@@ -57,8 +57,8 @@ impl Session {
     }
 
     // The fill at a place; the first, where the array has no such place.
-    fn fill_at(self, at: usize) -> Fill
-        ensures { result ≡ fillAt self (placeOf maxFills at) }
+    fn fill_at(&self, at: usize) -> Fill
+        ensures { result ≡ fillAt self.now (placeOf maxFills at) }
     {
         let fills = self.fills;
         if at < Session::MAX_FILLS {
@@ -68,9 +68,9 @@ impl Session {
     }
 
     // 21 no fill; 23 settled.
-    fn fill_refusal(self, at: usize, f: Fill) -> u8
-        requires { (self.fill_count ≤ maxFills) × (at < maxFills → f ≡ fillAt self at) }
-        ensures { result ≡ unless (ltb at self.fill_count) 21 then unless (not (fillAt self at).settled) 23 }
+    fn fill_refusal(&self, at: usize, f: Fill) -> u8
+        requires { (self.now.fill_count ≤ maxFills) × (at < maxFills → f ≡ fillAt self.now at) }
+        ensures { result ≡ unless (ltb at self.now.fill_count) 21 then unless (not (fillAt self.now at).settled) 23 }
     {
         if self.fill_count <= at {
             return refusals::NO_FILL;
@@ -79,8 +79,8 @@ impl Session {
     }
 
     // A fill at a place, settled.
-    fn fill_change(self, at: usize, f: Fill, events: EventPair) -> Change
-        ensures { result ≡ writing self false 0 (orderAt self 0) at (asSettled f) 0 events }
+    fn fill_change(&self, at: usize, f: Fill, events: EventPair) -> Change
+        ensures { result ≡ writing self.now false 0 (orderAt self.now 0) at (asSettled f) 0 events }
     {
         let mut settled = f;
         settled.settled = true;
@@ -98,8 +98,8 @@ impl Session {
         self.made(c)
     }
 
-    pub(crate) fn skip_change(self, now: i64, fill: u32, reason: u8) -> Change
-        ensures { result ≡ changeOf self (call.skip now fill reason) }
+    pub(crate) fn skip_change(&self, now: i64, fill: u32, reason: u8) -> Change
+        ensures { result ≡ changeOf self.now (call.skip now fill reason) }
     {
         let argument = unless(reason <= 6, refusals::BAD_FIELD);
         let phase = unless(
@@ -135,8 +135,8 @@ impl Session {
         self.made(c)
     }
 
-    pub(crate) fn finish_change(self, now: i64) -> Change
-        ensures { result ≡ changeOf self (call.finish now) }
+    pub(crate) fn finish_change(&self, now: i64) -> Change
+        ensures { result ≡ changeOf self.now (call.finish now) }
     {
         let refusal = self.finish_refusal(now);
         if refusal != 0 {
@@ -150,8 +150,8 @@ impl Session {
         self.phase_change(crate::PRINTED, EventPair::two(print, moved))
     }
 
-    fn finish_refusal(self, now: i64) -> u8
-        ensures { result ≡ refusal self (call.finish now) }
+    fn finish_refusal(&self, now: i64) -> u8
+        ensures { result ≡ refusal self.now (call.finish now) }
     {
         let phase = unless(
             crate::admits(self.phase, crate::FINISH),
@@ -169,9 +169,9 @@ impl Session {
     }
 
     // What the finish prints, as the policy discloses it.
-    fn print_of(self) -> Print
-        requires { (self.fill_count ≤ maxFills) × (self.given.band_bps ≤ maxBand) × (self.given.policy ≤ 3) × (movedVolume self < 2 ^ 64) }
-        ensures { result ≡ printOf self }
+    fn print_of(&self) -> Print
+        requires { (self.now.fill_count ≤ maxFills) × (self.now.given.band_bps ≤ maxBand) × (self.now.given.policy ≤ 3) × (movedVolume self.now < 2 ^ 64) }
+        ensures { result ≡ printOf self.now }
     {
         let p = self.params;
         let g = self.given;
@@ -206,8 +206,8 @@ impl Session {
         self.made(c)
     }
 
-    pub(crate) fn expire_change(self, now: i64) -> Change
-        ensures { result ≡ changeOf self (call.expire now) }
+    pub(crate) fn expire_change(&self, now: i64) -> Change
+        ensures { result ≡ changeOf self.now (call.expire now) }
     {
         let refusal = self.expire_refusal(now);
         if refusal != 0 {
@@ -221,8 +221,8 @@ impl Session {
         self.phase_change(crate::FAILED, EventPair::two(failed, moved))
     }
 
-    fn expire_refusal(self, now: i64) -> u8
-        ensures { result ≡ refusal self (call.expire now) }
+    fn expire_refusal(&self, now: i64) -> u8
+        ensures { result ≡ refusal self.now (call.expire now) }
     {
         let bad = self.checked();
         if bad != 0 {

@@ -9,7 +9,7 @@ use Rattle.auction_engine.proofs.Session.before_rofr_end.Goals as goal
 pub returns : goal.returns
 unfolding rofrEnd
 returns c =
-    let p = c.args.self.params in
+    let p = c.args.self.now.params in
     let g : SFits w64 p.reveal_end = search rules in
     let h : SFits w64 p.rofr_window = search rules in
     rw (to_z-of_z g, to_z-of_z h, to_z-of_z c.ranges.now) at c.before_sum.ensures

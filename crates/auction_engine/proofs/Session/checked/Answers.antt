@@ -6,12 +6,12 @@ use Rattle.auction_engine.proofs.Checks.{limits-orders}
 use Rattle.auction_engine.proofs.Session.checked.Goals as goal
 
 pub returns-then-over-ne0 : goal.returns-then-over-ne0
-returns-then-over-ne0 c = rw (← c.limits_refusal-over.ensures) (then-stop c.limits_refusal-over.result (fieldsRefusal c.args.self) c.if-over-ne0.true)
+returns-then-over-ne0 c = rw (← c.limits_refusal-over.ensures) (then-stop c.limits_refusal-over.result (fieldsRefusal c.args.self.now) c.if-over-ne0.true)
 
 pub fields_refusal-requires : goal.fields_refusal-requires
-fields_refusal-requires c = limits-orders c.args.self (sym c.limits_refusal-over.ensures ∙ c.if-over-ne0.false)
+fields_refusal-requires c = limits-orders c.args.self.now (sym c.limits_refusal-over.ensures ∙ c.if-over-ne0.false)
 
 pub returns : goal.returns
 returns c =
     c.fields_refusal.ensures
-    ∙ then-pass (limitsRefusal c.args.self) (fieldsRefusal c.args.self) (sym c.limits_refusal-over.ensures ∙ c.if-over-ne0.false)
+    ∙ then-pass (limitsRefusal c.args.self.now) (fieldsRefusal c.args.self.now) (sym c.limits_refusal-over.ensures ∙ c.if-over-ne0.false)

@@ -6,14 +6,14 @@ use Rattle.auction_engine.proofs.Checks.{checked-within}
 use Rattle.auction_engine.proofs.Session.clear_refusal.Goals as goal
 
 pub returns-then-bad-ne0 : goal.returns-then-bad-ne0
-returns-then-bad-ne0 c = stops-before c.args.self c.args.now c.checked-bad.result c.checked-bad.ensures c.if-bad-ne0.true
+returns-then-bad-ne0 c = stops-before c.args.self.now c.args.now c.checked-bad.result c.checked-bad.ensures c.if-bad-ne0.true
 
 pub all_screened-requires : goal.all_screened-requires
-all_screened-requires c = (checked-within c.args.self (sym c.checked-bad.ensures ∙ c.if-bad-ne0.false)).orders
+all_screened-requires c = (checked-within c.args.self.now (sym c.checked-bad.ensures ∙ c.if-bad-ne0.false)).orders
 
 pub returns : goal.returns
 returns c =
-    own-checks-decide c.args.self c.args.now c.checked-bad.result c.checked-bad.ensures c.if-bad-ne0.false c.first_of-2.result
+    own-checks-decide c.args.self.now c.args.now c.checked-bad.result c.checked-bad.ensures c.if-bad-ne0.false c.first_of-2.result
     (rw (
       c.first_of-2.ensures,
       c.first_of.ensures,

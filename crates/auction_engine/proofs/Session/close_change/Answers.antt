@@ -11,11 +11,11 @@ pub returns-then-refusal-ne0 : goal.returns-then-refusal-ne0
 unfolding changeOf
 returns-then-refusal-ne0 c =
     let number = rw (to_z-of_z c.ranges.now) at c.close_refusal-refusal.ensures in
-    refused-change c.args.self (call.close c.args.now c.args.caller) 0 _ 0 _ c.close_refusal-refusal.result number c.unchanged.result c.unchanged.ensures c.if-refusal-ne0.true
+    refused-change c.args.self.now (call.close c.args.now c.args.caller) 0 _ 0 _ c.close_refusal-refusal.result number c.unchanged.result c.unchanged.ensures c.if-refusal-ne0.true
 
 pub returns : goal.returns
 unfolding changeOf effect events closeEffect closeEvents
 returns c =
     let number = rw (to_z-of_z c.ranges.now) at c.close_refusal-refusal.ensures in
-    accepted-change c.args.self (call.close c.args.now c.args.caller) 0 _ 0 _ c.close_refusal-refusal.result number c.phase_change.result
+    accepted-change c.args.self.now (call.close c.args.now c.args.caller) 0 _ 0 _ c.close_refusal-refusal.result number c.phase_change.result
     (rw (c.phase_change.ensures, c.two.ensures)) c.if-refusal-ne0.false

@@ -11,12 +11,12 @@ use Rattle.auction_engine.specs.Call as call
 use Rattle.auction_engine.proofs.Session.close_refusal.Goals as goal
 
 pub returns-then-bad-ne0 : goal.returns-then-bad-ne0
-returns-then-bad-ne0 c = stops-checked c.args.self (call.close c.args.now c.args.caller) c.checked-bad.result c.checked-bad.ensures c.if-bad-ne0.true
+returns-then-bad-ne0 c = stops-checked c.args.self.now (call.close c.args.now c.args.caller) c.checked-bad.result c.checked-bad.ensures c.if-bad-ne0.true
 
 pub returns : goal.returns
 unfolding argumentsRefusal ownRefusal closeRefusal
 returns c =
-    own-decides c.args.self (call.close c.args.now c.args.caller) c.checked-bad.result c.checked-bad.ensures c.if-bad-ne0.false refl c.first_of.result
+    own-decides c.args.self.now (call.close c.args.now c.args.caller) c.checked-bad.result c.checked-bad.ensures c.if-bad-ne0.false refl c.first_of.result
     (rw (
       c.first_of.ensures,
       c.unless.ensures,
@@ -26,5 +26,5 @@ returns c =
       c.unless-phase.ensures,
       c.admits.ensures,
       to_z-of_z c.ranges.now,
-      leZ-not c.args.now (rofrEnd c.args.self),
+      leZ-not c.args.now (rofrEnd c.args.self.now),
     ))

@@ -9,10 +9,10 @@ pub returns-then-both : goal.returns-then-both
 unfolding changeOf
 returns-then-both c =
     let test = rw (c.before_rofr_end.ensures, c.admits.ensures, to_z-of_z c.ranges.now) at c.both.ensures in
-    undecided-change c.args.self _ _ c.early.result c.early.ensures (sym test ∙ c.if-both.true)
+    undecided-change c.args.self.now _ _ c.early.result c.early.ensures (sym test ∙ c.if-both.true)
 
 pub returns : goal.returns
 unfolding changeOf
 returns c =
     let test = rw (c.before_rofr_end.ensures, c.admits.ensures, to_z-of_z c.ranges.now) at c.both.ensures in
-    sure-change c.args.self _ _ c.early-2.result (rw (c.exercise_refusal.ensures, to_z-of_z c.ranges.now) at c.early-2.ensures) (sym test ∙ c.if-both.false)
+    sure-change c.args.self.now _ _ c.early-2.result (rw (c.exercise_refusal.ensures, to_z-of_z c.ranges.now) at c.early-2.ensures) (sym test ∙ c.if-both.false)

@@ -10,15 +10,15 @@ use Rattle.auction_engine.proofs.Session.exercise_refusal.Goals as goal
 
 pub returns-then-bad-ne0 : goal.returns-then-bad-ne0
 returns-then-bad-ne0 c =
-    stops-checked c.args.self (call.exercise c.args.now c.args.issuer c.args.fill c.args.qty) c.checked-bad.result c.checked-bad.ensures c.if-bad-ne0.true
+    stops-checked c.args.self.now (call.exercise c.args.now c.args.issuer c.args.fill c.args.qty) c.checked-bad.result c.checked-bad.ensures c.if-bad-ne0.true
 
 pub take_refusal-no_fill-requires : goal.take_refusal-no_fill-requires
-take_refusal-no_fill-requires c = (checked-within c.args.self (sym c.checked-bad.ensures ∙ c.if-bad-ne0.false)).fills
+take_refusal-no_fill-requires c = (checked-within c.args.self.now (sym c.checked-bad.ensures ∙ c.if-bad-ne0.false)).fills
 
 pub returns : goal.returns
 unfolding argumentsRefusal ownRefusal exerciseRefusal
 returns c =
-    own-decides c.args.self (call.exercise c.args.now c.args.issuer c.args.fill c.args.qty) c.checked-bad.result c.checked-bad.ensures c.if-bad-ne0.false refl c.first_of-5.result
+    own-decides c.args.self.now (call.exercise c.args.now c.args.issuer c.args.fill c.args.qty) c.checked-bad.result c.checked-bad.ensures c.if-bad-ne0.false refl c.first_of-5.result
     (rw (
       c.first_of-5.ensures,
       c.first_of-4.ensures,

@@ -11,11 +11,11 @@ pub returns-then-refusal-ne0 : goal.returns-then-refusal-ne0
 unfolding changeOf
 returns-then-refusal-ne0 c =
     let number = rw (to_z-of_z c.ranges.now) at c.expire_refusal-refusal.ensures in
-    refused-change c.args.self (call.expire c.args.now) 0 _ 0 _ c.expire_refusal-refusal.result number c.unchanged.result c.unchanged.ensures c.if-refusal-ne0.true
+    refused-change c.args.self.now (call.expire c.args.now) 0 _ 0 _ c.expire_refusal-refusal.result number c.unchanged.result c.unchanged.ensures c.if-refusal-ne0.true
 
 pub returns : goal.returns
 unfolding changeOf effect events expireEffect expireEvents
 returns c =
     let number = rw (to_z-of_z c.ranges.now) at c.expire_refusal-refusal.ensures in
-    accepted-change c.args.self (call.expire c.args.now) 0 _ 0 _ c.expire_refusal-refusal.result number c.phase_change.result
+    accepted-change c.args.self.now (call.expire c.args.now) 0 _ 0 _ c.expire_refusal-refusal.result number c.phase_change.result
     (rw (c.phase_change.ensures, c.two.ensures)) c.if-refusal-ne0.false

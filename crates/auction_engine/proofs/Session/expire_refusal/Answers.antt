@@ -12,13 +12,13 @@ use Rattle.auction_engine.specs.Call as call
 use Rattle.auction_engine.proofs.Session.expire_refusal.Goals as goal
 
 pub returns-then-bad-ne0 : goal.returns-then-bad-ne0
-returns-then-bad-ne0 c = stops-checked c.args.self (call.expire c.args.now) c.checked-bad.result c.checked-bad.ensures c.if-bad-ne0.true
+returns-then-bad-ne0 c = stops-checked c.args.self.now (call.expire c.args.now) c.checked-bad.result c.checked-bad.ensures c.if-bad-ne0.true
 
 pub returns : goal.returns
 unfolding argumentsRefusal ownRefusal expireRefusal
 returns c =
-    let h : SFits w64 c.args.self.params.settle_deadline = search rules in
-    own-decides c.args.self (call.expire c.args.now) c.checked-bad.result c.checked-bad.ensures c.if-bad-ne0.false refl c.first_of.result
+    let h : SFits w64 c.args.self.now.params.settle_deadline = search rules in
+    own-decides c.args.self.now (call.expire c.args.now) c.checked-bad.result c.checked-bad.ensures c.if-bad-ne0.false refl c.first_of.result
     (rw (
       c.first_of.ensures,
       c.unless-window.ensures,

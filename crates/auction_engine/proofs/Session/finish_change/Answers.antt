@@ -13,16 +13,16 @@ pub returns-then-refusal-ne0 : goal.returns-then-refusal-ne0
 unfolding changeOf
 returns-then-refusal-ne0 c =
     let number = rw (to_z-of_z c.ranges.now) at c.finish_refusal-refusal.ensures in
-    refused-change c.args.self (call.finish c.args.now) 0 _ 0 _ c.finish_refusal-refusal.result number c.unchanged.result c.unchanged.ensures c.if-refusal-ne0.true
+    refused-change c.args.self.now (call.finish c.args.now) 0 _ 0 _ c.finish_refusal-refusal.result number c.unchanged.result c.unchanged.ensures c.if-refusal-ne0.true
 
 pub print_of-requires : goal.print_of-requires
 print_of-requires c =
     let number = rw (to_z-of_z c.ranges.now) at c.finish_refusal-refusal.ensures in
-    finish-passed c.args.self c.args.now (sym number ∙ c.if-refusal-ne0.false)
+    finish-passed c.args.self.now c.args.now (sym number ∙ c.if-refusal-ne0.false)
 
 pub returns : goal.returns
 unfolding changeOf effect events finishEffect finishEvents
 returns c =
     let number = rw (to_z-of_z c.ranges.now) at c.finish_refusal-refusal.ensures in
-    accepted-change c.args.self (call.finish c.args.now) 0 _ 0 _ c.finish_refusal-refusal.result number c.phase_change.result
+    accepted-change c.args.self.now (call.finish c.args.now) 0 _ 0 _ c.finish_refusal-refusal.result number c.phase_change.result
     (rw (c.phase_change.ensures, c.two.ensures, c.print_of.ensures)) c.if-refusal-ne0.false

@@ -23,21 +23,21 @@ stages s now m is = in-two-stages s (call.finish now) (unless (call.admits s.pha
 
 pub returns-then-early-ne0 : goal.returns-then-early-ne0
 returns-then-early-ne0 c =
-    let t = stages c.args.self c.args.now c.first_of-early.result (rw (c.first_of-early.ensures, c.checked.ensures, c.unless-phase.ensures, c.admits.ensures)) in
+    let t = stages c.args.self.now c.args.now c.first_of-early.result (rw (c.first_of-early.ensures, c.checked.ensures, c.unless-phase.ensures, c.admits.ensures)) in
     t.stops c.if-early-ne0.true
 
 pub all_settled-requires : goal.all_settled-requires
 all_settled-requires c =
-    let t = stages c.args.self c.args.now c.first_of-early.result (rw (c.first_of-early.ensures, c.checked.ensures, c.unless-phase.ensures, c.admits.ensures)) in
+    let t = stages c.args.self.now c.args.now c.first_of-early.result (rw (c.first_of-early.ensures, c.checked.ensures, c.unless-phase.ensures, c.admits.ensures)) in
     (t.within c.if-early-ne0.false).fills
 
 pub moved_volume-volume-requires : goal.moved_volume-volume-requires
 moved_volume-volume-requires c =
-    let t = stages c.args.self c.args.now c.first_of-early.result (rw (c.first_of-early.ensures, c.checked.ensures, c.unless-phase.ensures, c.admits.ensures)) in
+    let t = stages c.args.self.now c.args.now c.first_of-early.result (rw (c.first_of-early.ensures, c.checked.ensures, c.unless-phase.ensures, c.admits.ensures)) in
     (t.within c.if-early-ne0.false).fills
 
 pub returns : goal.returns
 unfolding movedVolume
 returns c =
-    let t = stages c.args.self c.args.now c.first_of-early.result (rw (c.first_of-early.ensures, c.checked.ensures, c.unless-phase.ensures, c.admits.ensures)) in
+    let t = stages c.args.self.now c.args.now c.first_of-early.result (rw (c.first_of-early.ensures, c.checked.ensures, c.unless-phase.ensures, c.admits.ensures)) in
     t.decides c.if-early-ne0.false c.first_of.result (cc)

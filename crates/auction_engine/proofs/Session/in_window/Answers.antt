@@ -9,7 +9,7 @@ use Rattle.auction_engine.proofs.Session.in_window.Goals as goal
 pub returns : goal.returns
 unfolding inWindow
 returns c =
-    let p = c.args.self.params in
+    let p = c.args.self.now.params in
     let g : SFits w64 p.reveal_end = search rules in
     let h : SFits w64 p.settle_deadline = search rules in
     rw (c.both.ensures, c.before-2.ensures, c.not_before.ensures, to_z-of_z c.ranges.now, to_z-of_z g, to_z-of_z h)

@@ -9,7 +9,7 @@ use Rattle.auction_engine.proofs.Session.limits_refusal.Goals as goal
 pub returns : goal.returns
 unfolding limitsRefusal
 returns c =
-    let p = c.args.self.params in
+    let p = c.args.self.now.params in
     let g : SFits w64 p.reveal_end = search rules in
     let h : SFits w64 p.rofr_window = search rules in
     rw (

@@ -9,4 +9,4 @@ returns c =
     let n = c.distinct_participants-count in
     let v = c.moved_volume-volume in
     let r = c.requires in
-    print-as c.args.self v.result n.result c.disclose-shown.result r.1 r.2 r.3 v.ensures n.ensures c.disclose-shown.ensures
+    print-as c.args.self.now v.result n.result c.disclose-shown.result r.1 r.2 r.3 v.ensures n.ensures c.disclose-shown.ensures

@@ -35,7 +35,7 @@ stages s now i side verdict hasId id m is =
 pub returns-then-early-ne0 : goal.returns-then-early-ne0
 unfolding changeOf argumentsRefusal
 returns-then-early-ne0 c =
-    let s = c.args.self in
+    let s = c.args.self.now in
     let k = call.screen c.args.now c.args.order c.args.side c.args.verdict c.args.has_id c.args.id in
     let t =
     stages s c.args.now c.args.order c.args.side c.args.verdict c.args.has_id c.args.id c.first_of-early.result
@@ -45,7 +45,7 @@ returns-then-early-ne0 c =
 pub order_refusal-refusal-requires : goal.order_refusal-refusal-requires
 unfolding argumentsRefusal
 order_refusal-refusal-requires c =
-    let s = c.args.self in
+    let s = c.args.self.now in
     let t =
     stages s c.args.now c.args.order c.args.side c.args.verdict c.args.has_id c.args.id c.first_of-early.result
     (rw (c.first_of-early.ensures, c.first_of.ensures, c.screening_refusal.ensures, c.checked.ensures, c.arguments_refusal-argument.ensures, to_z-of_z c.ranges.now)) in
@@ -54,7 +54,7 @@ order_refusal-refusal-requires c =
 pub returns-then-refusal-ne0 : goal.returns-then-refusal-ne0
 unfolding changeOf argumentsRefusal
 returns-then-refusal-ne0 c =
-    let s = c.args.self in
+    let s = c.args.self.now in
     let k = call.screen c.args.now c.args.order c.args.side c.args.verdict c.args.has_id c.args.id in
     let t =
     stages s c.args.now c.args.order c.args.side c.args.verdict c.args.has_id c.args.id c.first_of-early.result
@@ -65,7 +65,7 @@ returns-then-refusal-ne0 c =
 pub returns : goal.returns
 unfolding changeOf effect events screenEffect screenEvents argumentsRefusal
 returns c =
-    let s = c.args.self in
+    let s = c.args.self.now in
     let k = call.screen c.args.now c.args.order c.args.side c.args.verdict c.args.has_id c.args.id in
     let t =
     stages s c.args.now c.args.order c.args.side c.args.verdict c.args.has_id c.args.id c.first_of-early.result

@@ -25,20 +25,20 @@ stages s i m is = in-two-stages s (call.settle i) (unless (call.admits s.phase c
 pub returns-then-early-ne0 : goal.returns-then-early-ne0
 unfolding changeOf
 returns-then-early-ne0 c =
-    let s = c.args.self in
+    let s = c.args.self.now in
     let t = stages s c.args.fill c.first_of-early.result (rw (c.first_of-early.ensures, c.checked.ensures, c.unless-phase.ensures, c.admits.ensures)) in
     refused-change s (call.settle c.args.fill) 0 _ c.args.fill _ c.first_of-early.result (t.stops c.if-early-ne0.true) _ c.unchanged.ensures c.if-early-ne0.true
 
 pub fill_refusal-refusal-requires : goal.fill_refusal-refusal-requires
 fill_refusal-refusal-requires c =
-    let s = c.args.self in
+    let s = c.args.self.now in
     let t = stages s c.args.fill c.first_of-early.result (rw (c.first_of-early.ensures, c.checked.ensures, c.unless-phase.ensures, c.admits.ensures)) in
     ((t.within c.if-early-ne0.false).fills, λ h. c.fill_at-f.ensures ∙ ap (fillAt s) (place-is maxFills c.args.fill h))
 
 pub returns-then-refusal-ne0 : goal.returns-then-refusal-ne0
 unfolding changeOf
 returns-then-refusal-ne0 c =
-    let s = c.args.self in
+    let s = c.args.self.now in
     let t = stages s c.args.fill c.first_of-early.result (rw (c.first_of-early.ensures, c.checked.ensures, c.unless-phase.ensures, c.admits.ensures)) in
     refused-change s (call.settle c.args.fill) 0 _ c.args.fill _ c.fill_refusal-refusal.result
     (t.decides c.if-early-ne0.false c.fill_refusal-refusal.result c.fill_refusal-refusal.ensures) _ c.unchanged-then-refusal-ne0.ensures c.if-refusal-ne0.true
@@ -46,7 +46,7 @@ returns-then-refusal-ne0 c =
 pub returns : goal.returns
 unfolding changeOf effect events settleEffect settleEvents
 returns c =
-    let s = c.args.self in
+    let s = c.args.self.now in
     let t = stages s c.args.fill c.first_of-early.result (rw (c.first_of-early.ensures, c.checked.ensures, c.unless-phase.ensures, c.admits.ensures)) in
     let number = t.decides c.if-early-ne0.false c.fill_refusal-refusal.result c.fill_refusal-refusal.ensures in
     let place = settle-place s c.args.fill (sym number ∙ c.if-refusal-ne0.false) in

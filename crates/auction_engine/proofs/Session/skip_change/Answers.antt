@@ -29,7 +29,7 @@ stages s now i reason m is =
 pub returns-then-early-ne0 : goal.returns-then-early-ne0
 unfolding changeOf
 returns-then-early-ne0 c =
-    let s = c.args.self in
+    let s = c.args.self.now in
     let k = call.skip c.args.now c.args.fill c.args.reason in
     let t =
     stages s c.args.now c.args.fill c.args.reason c.first_of-early.result
@@ -38,7 +38,7 @@ returns-then-early-ne0 c =
 
 pub fill_refusal-requires : goal.fill_refusal-requires
 fill_refusal-requires c =
-    let s = c.args.self in
+    let s = c.args.self.now in
     let t =
     stages s c.args.now c.args.fill c.args.reason c.first_of-early.result
     (rw (c.first_of-early.ensures, c.first_of.ensures, c.checked.ensures, c.unless-phase.ensures, c.admits.ensures, c.unless-argument.ensures)) in
@@ -47,7 +47,7 @@ fill_refusal-requires c =
 pub returns-then-refusal-ne0 : goal.returns-then-refusal-ne0
 unfolding changeOf
 returns-then-refusal-ne0 c =
-    let s = c.args.self in
+    let s = c.args.self.now in
     let k = call.skip c.args.now c.args.fill c.args.reason in
     let t =
     stages s c.args.now c.args.fill c.args.reason c.first_of-early.result
@@ -57,7 +57,7 @@ returns-then-refusal-ne0 c =
 
 pub with_bit-requires : goal.with_bit-requires
 with_bit-requires c =
-    let s = c.args.self in
+    let s = c.args.self.now in
     let t =
     stages s c.args.now c.args.fill c.args.reason c.first_of-early.result
     (rw (c.first_of-early.ensures, c.first_of.ensures, c.checked.ensures, c.unless-phase.ensures, c.admits.ensures, c.unless-argument.ensures)) in
@@ -67,7 +67,7 @@ with_bit-requires c =
 pub returns : goal.returns
 unfolding changeOf effect events skipEffect skipEvents
 returns c =
-    let s = c.args.self in
+    let s = c.args.self.now in
     let k = call.skip c.args.now c.args.fill c.args.reason in
     let t =
     stages s c.args.now c.args.fill c.args.reason c.first_of-early.result

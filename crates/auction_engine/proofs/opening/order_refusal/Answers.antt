@@ -6,18 +6,18 @@ use Rattle.auction_engine.proofs.opening.order_refusal.Goals as goal
 
 pub returns-then-refusal-ne0 : goal.returns-then-refusal-ne0
 returns-then-refusal-ne0 c =
-    row-stops c.args.s c.args.cover c.args.row c.first_of-refusal.result
+    row-stops c.args.s.now c.args.cover c.args.row c.first_of-refusal.result
     (rw (c.first_of-refusal.ensures, c.row_refusal.ensures, c.unless-full.ensures))
     c.if-refusal-ne0.true
 
 pub owner_seen-requires : goal.owner_seen-requires
 owner_seen-requires c =
-    let z : rowChecks c.args.s c.args.cover c.args.row ≡ 0 = rw (c.first_of-refusal.ensures, c.row_refusal.ensures, c.unless-full.ensures) at c.if-refusal-ne0.false in
-    omega (arith, row-room c.args.s c.args.cover c.args.row z)
+    let z : rowChecks c.args.s.now c.args.cover c.args.row ≡ 0 = rw (c.first_of-refusal.ensures, c.row_refusal.ensures, c.unless-full.ensures) at c.if-refusal-ne0.false in
+    omega (arith, row-room c.args.s.now c.args.cover c.args.row z)
 
 pub returns : goal.returns
 returns c =
-    owner-decides c.args.s c.args.cover c.args.row c.first_of-refusal.result c.unless.result
+    owner-decides c.args.s.now c.args.cover c.args.row c.first_of-refusal.result c.unless.result
     (rw (c.first_of-refusal.ensures, c.row_refusal.ensures, c.unless-full.ensures))
     c.if-refusal-ne0.false
     (rw (c.unless.ensures, c.owner_seen.ensures))
