@@ -162,7 +162,9 @@ pub struct CallRecord {
 }
 
 impl Session {
-    // The call that a record says. A kind above 8 is an argument outside its values: 9, then 4.
+    // The call that a record says. A kind above 8 is an argument outside its values: 9, then 4. Not put into the loop over a file's records, where few
+    // calls come to it and all would pay for its frame.
+    #[inline(never)]
     pub fn apply(self, call: CallRecord) -> Answer
         ensures { result ≡ applied self call }
     {
