@@ -10,13 +10,13 @@ use lib.Dec.{eqb}
 use lib.ListN.{length, get_or, set, length-set}
 use lib.Seq.{get_or-set_same, get_or-set_other, ext_get_or}
 use Rattle.laws.specs.Sums.{sumBelow, sumOver, only, count}
-use Rattle.laws.specs.Lists.{Member}
+use Rattle.laws.specs.Lists.{Member, has}
 use Rattle.laws.specs.Bits.{bit, isSet, withBit}
 use Rattle.laws.proofs.Tests.{neither}
 use Rattle.laws.proofs.Sums.{sum-same, sum-zero, sum-add, count-le, count-same}
 use Rattle.laws.proofs.Only.{only-not, only-is}
 use Rattle.laws.proofs.Bits.{bit-or, bit-zero, bit-same, bit-other, bits-ext}
-use Rattle.laws.proofs.Members.{has, has-head, has-tail, has-same, has-sum, has-count}
+use Rattle.laws.proofs.Members.{has-head, has-tail, has-same, has-sum, has-count}
 use Rattle.book.specs.Limits.{maxFills}
 use Rattle.book.specs.Book.{noFill}
 use Rattle.book.specs.declared.Fill.{Fill}

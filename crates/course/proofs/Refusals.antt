@@ -7,10 +7,10 @@ use Prim.Native.Nat.{ℕ, ◌≤◌}
 use lib.Dec.{eqb, leb}
 use lib.ListN.{length}
 use borrow.Author.Tests.{eqb-true}
-use Rattle.laws.specs.Lists.{Member}
+use Rattle.laws.specs.Lists.{Member, has}
 use Rattle.laws.specs.Checks.{unless, ◌then◌}
 use Rattle.laws.proofs.Tests.{tested, lt-or-le}
-use Rattle.laws.proofs.Members.{has, has-member}
+use Rattle.laws.proofs.Members.{has-member}
 use Rattle.laws.proofs.Checking.{then-pass, then-in, unless-in, check-in}
 use Rattle.book.specs.Clear.{liveOrders, mathOverflow}
 use Rattle.book.specs.Claims as book

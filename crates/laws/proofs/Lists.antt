@@ -29,6 +29,11 @@ get_or-table f zero k d h = absurd (omega (arith, h))
 get_or-table f (suc n) zero d h = refl
 get_or-table f (suc n) (suc k) d h = get_or-table (λ i. f (suc i)) n k d (le_of_suc-le-suc h)
 
+pub table-same : {A : Type 0} (f g : ℕ → A) (n : ℕ) → ((i : ℕ) → i < n → f i ≡ g i) → table f n ≡ table g n
+unfolding table
+table-same f g zero h = refl
+table-same f g (suc n) h = ap₂ (λ x l. x ∷ l) (h 0 (omega arith)) (table-same (λ i. f (suc i)) (λ i. g (suc i)) n (λ i l. h (suc i) (omega (arith, l))))
+
 -- a list is the table of its places
 pub is-table : {A : Type 0} (f : ℕ → A) (n : ℕ) (d : A) (l : List A) → length l ≡ n → ((k : ℕ) → k < n → get_or l k d ≡ f k) → l ≡ table f n
 is-table f n d l e h =

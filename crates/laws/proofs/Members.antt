@@ -1,21 +1,16 @@
 -- Membership of a number in a list as a test, and what it says of lists with the same members. Assumes nothing.
-use mathlib.Core.Path.{◌≡◌, refl, sym, ap}
+use mathlib.Core.Path.{◌≡◌, refl, sym, ap, ◌∙◌}
 use mathlib.Core.Logic.{◌≢◌, ◌↔◌, inl, inr, ⊎_elim}
-use mathlib.Core.Bool.{Bool, true, false, ◌||◌, or-true}
-use mathlib.Core.List.{List, [], ◌∷◌}
+use mathlib.Core.Bool.{Bool, true, false, ◌||◌, or-true, or_assoc}
+use mathlib.Core.List.{List, [], ◌∷◌, ◌++◌}
 use Prim.Native.Nat.{ℕ, ◌+◌, ◌<◌}
 use native.Mathlib.Omega.{arith}
 use lib.Dec.{eqb}
 use borrow.Author.Tests.{eqb-true, eq-eqb, ne_eqb}
 use Rattle.laws.specs.Sums.{sumBelow, only, count}
-use Rattle.laws.specs.Lists.{Member}
+use Rattle.laws.specs.Lists.{Member, has}
 use Rattle.laws.proofs.Tests.{clash, is-false}
 use Rattle.laws.proofs.Sums.{sum-at}
-
--- i stands in the list
-unfoldable pub has : List ℕ → ℕ → Bool
-has [] i = false
-has (x ∷ l) i = eqb x i || has l i
 
 pub has-head : (i : ℕ) (l : List ℕ) → has (i ∷ l) i ≡ true
 unfolding has
@@ -24,6 +19,11 @@ has-head i l = rw (eq-eqb i i refl)
 pub has-tail : (i j : ℕ) (l : List ℕ) → j ≢ i → has (i ∷ l) j ≡ has l j
 unfolding has
 has-tail i j l q = rw (ne_eqb i j (λ e. q (sym e)))
+
+pub has-append : (l k : List ℕ) (i : ℕ) → has (l ++ k) i ≡ (has l i || has k i)
+unfolding has
+has-append [] k i = refl
+has-append (x ∷ l) k i = ap (λ b. eqb x i || b) (has-append l k i) ∙ sym (or_assoc (eqb x i) (has l i) (has k i))
 
 -- the test is membership
 pub member-has : (l : List ℕ) (i : ℕ) → Member i l → has l i ≡ true

@@ -1,5 +1,5 @@
 -- Lists of numbers: tables, membership, equality.
-use Rattle.std.specs.Prelude.{Bool, true, false, cond, ◌&&◌, ◌⊎◌, ◌≡◌, List, [], ◌∷◌, ℕ, zero, suc, eqb}
+use Rattle.std.specs.Prelude.{Bool, true, false, cond, ◌&&◌, ◌||◌, ◌⊎◌, ◌≡◌, List, [], ◌∷◌, ℕ, zero, suc, eqb}
 
 -- f 0, f 1, .., f (n - 1)
 unfoldable pub table : {A : Type 0} → (ℕ → A) → ℕ → List A
@@ -15,6 +15,11 @@ keep p (x ∷ l) = cond (p x) (x ∷ keep p l) (keep p l)
 abbrev pub Member : ℕ → List ℕ → Type 0
 Member n [] = ⊥
 Member n (x ∷ l) = (n ≡ x) ⊎ Member n l
+
+-- the same as a test
+unfoldable pub has : List ℕ → ℕ → Bool
+has [] n = false
+has (x ∷ l) n = eqb x n || has l n
 
 -- two lists are the same
 unfoldable pub same : List ℕ → List ℕ → Bool

@@ -1,8 +1,7 @@
 -- Each `refused` line of a file has a number of its record's place; of a call, one of its row or the 4 of its own arguments. Assumes nothing.
 use Rattle.std.proofs.Common.{◌≡◌, ℕ, zero, suc, ◌<◌, Bool, true, false, cond, eqb, ltb, ◌≢◌, List, [], ◌∷◌, ◌++◌, length, drop, sym, refl, ap, ◌∙◌, subst, inl, inr, ⊎_elim, arith, eq-eqb, eqb-true}
 use borrow.Author.Tests.{eqb-false}
-use Rattle.laws.specs.Lists.{Member}
-use Rattle.laws.proofs.Members.{has}
+use Rattle.laws.specs.Lists.{Member, has}
 use Rattle.laws.proofs.Checking.{then-in}
 use Rattle.laws.proofs.Tests.{tested}
 use Rattle.book.specs.declared.Params.{Params}

@@ -1,0 +1,6 @@
+-- Laws of the number of fills, and the worked examples.
+pub mod Fills
+pub mod Places
+pub mod Bounds
+pub mod Hands
+pub mod Examples

@@ -1,0 +1,102 @@
+-- Lots by place: those of one side, and a fill that changes one of them. Assumes nothing.
+use mathlib.Core.Path.{◌≡◌, refl, sym, ap, ap₂, ◌∙◌}
+use mathlib.Core.Logic.{◌≢◌}
+use mathlib.Core.Bool.{Bool, true, false, cond, ◌&&◌}
+use mathlib.Core.List.{List, [], ◌∷◌, map}
+use Prim.Native.Nat.{ℕ, zero, suc, ◌≤◌, ◌<◌}
+use native.Mathlib.Omega.{arith}
+use borrow.Author.Tests.{le-leb, eq-eqb}
+use lib.Dec.{ltb, leb, eqb}
+use lib.ListN.{length, get_or}
+use Rattle.laws.specs.Sums.{only}
+use Rattle.laws.specs.Search.{every}
+use Rattle.laws.specs.Lists.{table, keep}
+use Rattle.laws.proofs.Search.{every-all}
+use Rattle.laws.proofs.Lists.{length-table, get_or-table, table-same}
+use Rattle.laws.proofs.Checking.{check-pass, unless-pass}
+use Rattle.credit_math.specs.Limits.{maxOrders}
+use Rattle.book.specs.Book.{buySide, sellSide}
+use Rattle.fills.specs.FillCount.{lotsOn, fillCount, fillCountRefusal, fillCountAnswer}
+use Rattle.fills.specs.Steps.{nonzero, fillsOf, lotOn}
+use Rattle.fills.proofs.Fills.{nonzero-none}
+
+-- the lots above 0 of the places that pass
+kept-lots : (p : ℕ → Bool) (lot f : ℕ → ℕ) (n : ℕ)
+    → map lot (keep (λ i. p i && ltb 0 (lot i)) (table f n)) ≡ nonzero (table (λ i. only (p (f i)) (lot (f i))) n)
+unfolding nonzero keep table
+kept-lots p lot f zero = refl
+kept-lots p lot f (suc n) = go (p (f 0)) (ltb 0 (lot (f 0))) refl (kept-lots p lot (λ i. f (suc i)) n)
+  where
+    K : List ℕ
+    K = keep (λ i. p i && ltb 0 (lot i)) (table (λ i. f (suc i)) n)
+
+    T : List ℕ
+    T = nonzero (table (λ i. only (p (f (suc i))) (lot (f (suc i)))) n)
+
+    go : (a b : Bool) → ltb 0 (lot (f 0)) ≡ b → map lot K ≡ T → map lot (cond (a && b) (f 0 ∷ K) K) ≡ cond (ltb 0 (only a (lot (f 0)))) (only a (lot (f 0)) ∷ T) T
+    go false b e ih = ih
+    go true false e ih = rw e ih
+    go true true e ih = rw e (ap (λ l. lot (f 0) ∷ l) ih)
+
+pub on-side : (side : ℕ) (lots sides : List ℕ) → lotsOn side lots sides ≡ nonzero (table (lotOn side lots sides) (length lots))
+unfolding lotsOn lotOn
+on-side side lots sides = kept-lots (λ i. eqb (get_or sides i 0) side) (λ i. get_or lots i 0) (λ i. i) (length lots)
+
+pub count-by-place : (lots sides : List ℕ)
+    → fillCount lots sides ≡ fillsOf (table (lotOn buySide lots sides) (length lots)) (table (lotOn sellSide lots sides) (length lots))
+unfolding fillCount fillsOf
+count-by-place lots sides = rw (on-side buySide lots sides, on-side sellSide lots sides)
+
+module _ (lot side : ℕ → ℕ) (n : ℕ) where
+  on-table : (x : ℕ) → table (lotOn x (table lot n) (table side n)) (length (table lot n)) ≡ table (λ i. only (eqb (side i) x) (lot i)) n
+  unfolding lotOn
+  on-table x =
+      ap (table (lotOn x (table lot n) (table side n))) (length-table lot n)
+      ∙ table-same _ _ n (λ i l. ap₂ (λ y z. only (eqb y x) z) (get_or-table side n i 0 l) (get_or-table lot n i 0 l))
+
+  -- the figure of lots and sides that stand in tables
+  pub count-table : fillCount (table lot n) (table side n)
+      ≡ fillsOf (table (λ i. only (eqb (side i) buySide) (lot i)) n) (table (λ i. only (eqb (side i) sellSide) (lot i)) n)
+  count-table = count-by-place (table lot n) (table side n) ∙ ap₂ fillsOf (on-table buySide) (on-table sellSide)
+
+  accepted : n ≤ maxOrders → ((i : ℕ) → i < n → side i ≤ 1) → fillCountRefusal (table lot n) (table side n) ≡ 0
+  unfolding fillCountRefusal
+  accepted few known =
+      check-pass _ _ _ (le-leb (length (table lot n)) maxOrders (omega (arith, length-table lot n, few)))
+      (check-pass _ _ _ (eq-eqb _ _ (length-table side n ∙ sym (length-table lot n)))
+      (unless-pass _ _ (ap (every (λ i. leb (get_or (table side n) i 0) 1)) (length-table side n)
+      ∙ every-all _ n (λ i l. le-leb (get_or (table side n) i 0) 1 (omega (arith, get_or-table side n i 0 l, known i l))))))
+
+  pub answer-table : n ≤ maxOrders → ((i : ℕ) → i < n → side i ≤ 1)
+      → fillCountAnswer (table lot n) (table side n) ≡ record { refusal = 0; count = fillCount (table lot n) (table side n) }
+  unfolding fillCountAnswer
+  answer-table few known = rw (accepted few known)
+
+-- the first lot above 0 stands at i, and h differs from g at i only
+pub record Split (g h : ℕ → ℕ) (n i : ℕ) : Type 0 where
+  pub rest : List ℕ
+  pub old : nonzero (table g n) ≡ nonzero (g i ∷ rest)
+  pub new : nonzero (table h n) ≡ nonzero (h i ∷ rest)
+
+pub split : (g h : ℕ → ℕ) (n i : ℕ) → i < n → ((j : ℕ) → j < i → g j ≡ 0) → ((j : ℕ) → j < n → j ≢ i → h j ≡ g j) → Split g h n i
+unfolding table
+split g h zero i l z e = absurd (omega (arith, l))
+split g h (suc n) zero l z e =
+    record {
+      rest = table (λ k. g (suc k)) n;
+      old = refl;
+      new = ap (λ k. nonzero (h 0 ∷ k)) (table-same (λ k. h (suc k)) (λ k. g (suc k)) n (λ k m. e (suc k) (omega (arith, m)) (λ w. omega (arith, w))));
+    }
+split g h (suc n) (suc i) l z e =
+    let S = split (λ k. g (suc k)) (λ k. h (suc k)) n i (omega (arith, l)) (λ j m. z (suc j) (omega (arith, m)))
+    (λ j m q. e (suc j) (omega (arith, m)) (λ w. q (omega (arith, w)))) in
+    record {
+      rest = S.rest;
+      old = nonzero-none (g 0) _ (z 0 (omega arith)) ∙ S.old;
+      new = nonzero-none (h 0) _ (e 0 (omega arith) (λ w. omega (arith, w)) ∙ z 0 (omega arith)) ∙ S.new;
+    }
+
+pub nothing : (g : ℕ → ℕ) (n : ℕ) → ((i : ℕ) → i < n → g i ≡ 0) → nonzero (table g n) ≡ []
+unfolding table nonzero keep
+nothing g zero z = refl
+nothing g (suc n) z = nonzero-none (g 0) (table (λ i. g (suc i)) n) (z 0 (omega arith)) ∙ nothing (λ i. g (suc i)) n (λ i l. z (suc i) (omega (arith, l)))

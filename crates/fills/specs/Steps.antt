@@ -1,0 +1,38 @@
+-- What the private functions keep on the way: the lots ahead of a hand, and the fills that they come to.
+use Rattle.std.specs.Prelude.{◌≡◌, cond, List, [], ◌∷◌, ◌++◌, ℕ, ◌-◌, ◌≤◌, ltb, eqb, length, get_or, drop}
+use Rattle.laws.specs.Sums.{only}
+use Rattle.laws.specs.Lists.{table, keep}
+use Rattle.credit_math.specs.Limits.{maxOrders}
+use Rattle.fills.specs.FillCount.{partialSums, distinct}
+use Rattle.fills.specs.declared.Hand.{Hand}
+
+-- lists that are not refused for their lengths
+pub record Even (lots sides : List ℕ) : Type 0 where
+  pub few : length lots ≤ maxOrders
+  pub same : length sides ≡ length lots
+
+-- lots above 0
+unfoldable pub nonzero : List ℕ → List ℕ
+nonzero lots = keep (λ lot. ltb 0 lot) lots
+
+-- the fills that two lines of lots come to, zero lots left out
+unfoldable pub fillsOf : (buys sells : List ℕ) → ℕ
+fillsOf buys sells = distinct (partialSums (nonzero buys) ++ partialSums (nonzero sells))
+
+-- order i's lot if it is of that side, else 0
+unfoldable pub lotOn : (side : ℕ) (lots sides : List ℕ) (i : ℕ) → ℕ
+lotOn side lots sides i = only (eqb (get_or sides i 0) side) (get_or lots i 0)
+
+-- what is ahead of a hand on its side: what is left in it, and the lots from its place on
+unfoldable pub ahead : (side : ℕ) (lots sides : List ℕ) → Hand → List ℕ
+ahead side lots sides hand = hand.left ∷ drop hand.next (table (lotOn side lots sides) (length lots))
+
+-- a hand that has the next lot has the same lots ahead, and none where nothing is in it
+pub record Taken (side : ℕ) (lots sides : List ℕ) (hand taken : Hand) : Type 0 where
+  pub same : nonzero (ahead side lots sides taken) ≡ nonzero (ahead side lots sides hand)
+  pub none : taken.left ≡ 0 → nonzero (ahead side lots sides taken) ≡ []
+  pub within : taken.next ≤ length lots
+
+-- what a fill leaves of a lot
+abbrev pub lessOther : (lot other : ℕ) → ℕ
+lessOther lot other = cond (eqb other 0) 0 (lot - other)
