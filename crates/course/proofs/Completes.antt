@@ -20,7 +20,8 @@ use Rattle.auction_engine.specs.Matching.{afterFills, allocateRefusal, done, pha
 use Rattle.auction_engine.specs.Engine.{ownRefusal, refusal, effect}
 use Rattle.course.specs.Course.{Run, begin, note, advance, run}
 use Rattle.course.specs.Demand3.{after, allowance, allowances, isExpire, expires}
-use Rattle.course.proofs.Matching.{Allotted, room, kept-by-fills}
+use Rattle.course.proofs.Matching.{Allotted}
+use Rattle.course.proofs.ToCome.{room, kept-by-fills}
 use Rattle.course.proofs.Fills.{after-fills-add, after-fills-phase, after-fills-params, after-fills-given}
 use Rattle.course.proofs.Checked.{limits-kept, fields-kept}
 use Rattle.course.proofs.Accepted.{noted, Early, early-screen, early-clear, exercised, at-close, settles, skips, at-finish}

@@ -1,6 +1,6 @@
 -- Demand 3 and completion, as specs/Demand3.antt states them. Assumes nothing.
-use mathlib.Core.Path.{◌≡◌, ap, ◌∙◌, subst}
-use Prim.Native.Nat.{◌<◌}
+use mathlib.Core.Path.{◌≡◌, ap, ◌∙◌}
+use native.Mathlib.Omega.{arith}
 use lib.Dec.{ltb}
 use Rattle.laws.proofs.Sums.{count-same}
 use Rattle.credit_math.specs.Limits.{maxOrders}
@@ -8,12 +8,13 @@ use Rattle.auction_engine.specs.declared.Session.{Session}
 use Rattle.auction_engine.specs.Session.{orderAt}
 use Rattle.course.specs.Demand3.{JustCleared, after, lotOf, ordersWithLot, Demand3, Completion}
 use Rattle.course.proofs.Matching.{lotCount}
+use Rattle.course.proofs.ToCome.{few-to-come}
 use Rattle.course.proofs.Invariant.{few-made, reached}
 use Rattle.course.proofs.Ends.{ends-agree, ends-printed, ends-sold, ends-volume, ends-past}
 use Rattle.course.proofs.Start.{Starts, starts}
 use Rattle.course.proofs.Completes.{completes}
 
-same-lots : {s : Session} (j : JustCleared s) → Starts j → lotCount s ≡ ordersWithLot j
+pub same-lots : {s : Session} (j : JustCleared s) → Starts j → lotCount s ≡ ordersWithLot j
 same-lots {s} j S = count-same (λ i. ltb 0 (orderAt s i).alloc) (λ i. ltb 0 (lotOf j i)) s.order_count (λ i l. ap (ltb 0) (S.lot i l))
 
 pub demand3 : Demand3
@@ -23,7 +24,7 @@ demand3 s j =
     record {
       agree = ends-agree s A;
       one-print = ends-printed s A;
-      fewer = λ l. subst (λ n. (after s l).crankFills < n) (same-lots j S) (few-made s A (after s l) (reached s A l));
+      fewer = λ l. omega (arith, few-made s A (after s l) (reached s A l), few-to-come s A, same-lots j S);
       sellers = λ l c i h e. ends-sold s A l c i h e ∙ S.lot i h;
       volume = λ l f. ends-volume s A l f ∙ S.volume;
     }

@@ -10,33 +10,24 @@ use Rattle.laws.specs.Sums.{sumOver, only}
 use Rattle.laws.specs.Search.{every}
 use Rattle.laws.proofs.Sums.{sum-zero, sum-ge, only-none}
 use Rattle.laws.proofs.Only.{only-eq, only-ne}
-use Rattle.laws.proofs.Search.{first-below, every-all}
+use Rattle.laws.proofs.Search.{every-all}
 use Rattle.book.specs.Limits.{maxFills}
 use Rattle.book.specs.Book.{noOrder, buySide, sellSide}
-use Rattle.book.specs.declared.Order.{Order}
 use Rattle.auction_engine.specs.declared.Session.{Session}
 use Rattle.auction_engine.specs.Session.{orderAt, left}
-use Rattle.auction_engine.specs.Matching.{dueOn, dueAt, buyAt, sellAt, due, dueQty, pair, one, afterFills, overfull, done}
-use Rattle.course.proofs.Matching.{Allotted, Kept, KeptByFills, Fits, lotOn, leftOn, lots-few, room, orders-sum, due-at, due-count, one-due, one-idle, one-keeps, whole-on, kept-by-fills}
+use Rattle.auction_engine.specs.Matching.{dueAt, buyAt, sellAt, due, dueQty, pair, one, afterFills, overfull, done}
+use Rattle.course.proofs.Matching.{Allotted, Kept, Fits, lotOn, leftOn, orders-sum, due-at, due-count, one-due, one-idle, whole-on}
+use Rattle.course.proofs.ToCome.{KeptByFills, before-due, few-to-come, lots-few, room, one-keeps, kept-by-fills, at-most}
 use Rattle.course.proofs.Fills.{after-fills-last, done-after-fills, done-left}
 
 -- what one side has left
 abbrev sideLeft : (side : ℕ) → Session → ℕ
 sideLeft side t = sumOver (leftOn side) noOrder t.orders t.order_count
 
--- an order that is not due on a side has nothing left on it
-not-due : (side : ℕ) (o : Order) → dueOn side o ≡ false → leftOn side o ≡ 0
-not-due side o = go (eqb o.side side)
-  where
-    go : (x : Bool) → x && ltb 0 o.alloc_left ≡ false → only x o.alloc_left ≡ 0
-    go false e = refl
-    go true e = omega (arith, ltb-false 0 o.alloc_left e)
-
 side-out : (t : Session) (side : ℕ) → t.order_count ≤ dueAt t side → sideLeft side t ≡ 0
-unfolding sumOver dueAt
+unfolding sumOver
 side-out t side h =
-    sum-zero (λ i. leftOn side (orderAt t i)) t.order_count
-    (λ i l. not-due side (orderAt t i) (first-below (λ j. dueOn side (orderAt t j)) t.order_count i (omega arith)))
+    sum-zero (λ i. leftOn side (orderAt t i)) t.order_count (λ i l. before-due t side i (omega (arith, l, h)))
 
 none-on : (t : Session) (side : ℕ) → sideLeft side t ≡ 0 → (i : ℕ) → i < t.order_count → (orderAt t i).side ≡ side → left t i ≡ 0
 unfolding sumOver
@@ -124,7 +115,7 @@ module _ (s : Session) (A : Allotted s) where
     where
       go : (x : Bool) → done (afterFills k s) ≡ x → done (afterFills k s) ≡ true
       go true d = d
-      go false d = absurd (omega (arith, (kept-by-fills s A (suc k)).bound, lots-few s, one-more k d, used k d))
+      go false d = absurd (omega (arith, at-most s A (suc k), few-to-come s A, lots-few s, one-more k d, used k d))
 
   -- at the start the matching is open
   pub open-start : done s ≡ false

@@ -3,7 +3,7 @@
 use mathlib.Core.Path.{◌≡◌, refl, sym, ap, ap₂, ◌∙◌, subst}
 use mathlib.Core.Bool.{Bool, true, false, cond, not, false≢true}
 use mathlib.Core.List.{List, [], ◌∷◌}
-use Prim.Native.Nat.{ℕ, ◌+◌, ◌-◌, ◌≤◌, ◌<◌}
+use Prim.Native.Nat.{ℕ, ◌+◌, ◌-◌, ◌≤◌}
 use native.Mathlib.Omega.{arith}
 use borrow.Author.Tests.{eqb-true}
 use lib.Dec.{eqb}
@@ -21,7 +21,8 @@ use Rattle.auction_engine.specs.Settlement.{settleEffect, skipEffect, finishEffe
 use Rattle.auction_engine.specs.Engine.{refusal, effect}
 use Rattle.course.specs.Course.{Run, runOf, begin, note, advance, run}
 use Rattle.course.specs.Demand3.{after}
-use Rattle.course.proofs.Matching.{Allotted, Kept, lotCount, lots-few, kept-by-fills}
+use Rattle.course.proofs.Matching.{Allotted, Kept}
+use Rattle.course.proofs.ToCome.{toCome, room, kept-by-fills, at-most}
 use Rattle.course.proofs.Fills.{after-fills-add, after-fills-grows, after-fills-phase, after-fills-settled, after-fills-skipped}
 use Rattle.course.proofs.Purchases.{bought, exercise-kept}
 use Rattle.course.proofs.Marks.{Marked, unmarked, settle-marked, skip-marked}
@@ -83,7 +84,7 @@ pub record Printed (s₀ : Session) (r : Run) : Type 0 where
 -- Failed, by an expire
 pub record Failed (s₀ : Session) (r : Run) : Type 0 where
   pub at : r.session.phase ≡ failed
-  pub made : r.crankFills < lotCount s₀
+  pub made : r.crankFills ≤ toCome s₀
   pub prints : r.prints ≡ []
   pub complete : r.complete ≡ false
 
@@ -135,14 +136,12 @@ module _ {s₀ : Session} {r : Run} where
   no-print (in-failure m) e = m.prints
 
 module _ (s₀ : Session) (A : Allotted s₀) where
-  few-after-fills : (k : ℕ) → (afterFills k s₀).fill_count < lotCount s₀
-  few-after-fills k = omega (arith, (kept-by-fills s₀ A k).bound)
-
-  pub few-made : (r : Run) → Stage s₀ r → r.crankFills < lotCount s₀
-  few-made r (in-matching m) = omega (arith, few-after-fills m.k, ap (λ (x : Run). x.crankFills) m.is)
-  few-made r (in-rofr m) = omega (arith, few-after-fills m.base.k, m.base.made)
-  few-made r (in-settling m) = omega (arith, few-after-fills m.settlement.base.k, m.settlement.base.made)
-  few-made r (in-print m) = omega (arith, few-after-fills m.settlement.base.k, m.settlement.base.made)
+  -- the cranks make no more fills than were to come
+  pub few-made : (r : Run) → Stage s₀ r → r.crankFills ≤ toCome s₀
+  few-made r (in-matching m) = omega (arith, at-most s₀ A m.k, ap (λ (x : Run). x.crankFills) m.is)
+  few-made r (in-rofr m) = omega (arith, at-most s₀ A m.base.k, m.base.made)
+  few-made r (in-settling m) = omega (arith, at-most s₀ A m.settlement.base.k, m.settlement.base.made)
+  few-made r (in-print m) = omega (arith, at-most s₀ A m.settlement.base.k, m.settlement.base.made)
   few-made r (in-failure m) = m.made
 
   -- the matching is just complete
@@ -153,7 +152,7 @@ module _ (s₀ : Session) (A : Allotted s₀) where
         full = d;
         is = rw e;
         kept = (kept-by-fills s₀ A k).kept;
-        few = omega (arith, few-after-fills k, lots-few s₀, A.few);
+        few = omega (arith, room s₀ (afterFills k s₀) A (kept-by-fills s₀ A k));
         made = m;
         none-settled = after-fills-settled k s₀ ∙ A.none-settled;
         none-skipped = after-fills-skipped k s₀ ∙ A.none-skipped;

@@ -1,5 +1,6 @@
--- Demand 3 and completion, and what they rest on, from the fills of a matching up.
+-- Demand 3, completion and the number of fills, and what they rest on, from the fills of a matching up.
 pub mod Matching
+pub mod ToCome
 pub mod Fills
 pub mod Purchases
 pub mod Marks
@@ -15,6 +16,7 @@ pub mod Enough
 pub mod Applied
 pub mod Completes
 pub mod Demand3
+pub mod FillCount
 pub mod Passing
 pub mod CaseL
 pub mod Demand2

@@ -1,9 +1,9 @@
--- Matching: what each fill keeps, and that the fills stay fewer than the orders with a lot. Assumes nothing.
-use mathlib.Core.Path.{◌≡◌, refl, sym, ap, ◌∙◌, subst}
+-- Matching: what each fill keeps. Assumes nothing.
+use mathlib.Core.Path.{◌≡◌, refl, sym, ap, ◌∙◌}
 use mathlib.Core.Logic.{◌≢◌}
-use mathlib.Core.Bool.{Bool, true, false}
+use mathlib.Core.Bool.{true, false}
 use mathlib.Core.List.{List}
-use Prim.Native.Nat.{ℕ, zero, suc, ◌+◌, ◌-◌, ◌≤◌, ◌<◌, min, max}
+use Prim.Native.Nat.{ℕ, ◌+◌, ◌-◌, ◌≤◌, ◌<◌}
 use native.Mathlib.Decide.{ℕ_discrete}
 use native.Mathlib.Numerals.{add-one}
 use native.Mathlib.Omega.{arith}
@@ -13,10 +13,10 @@ use lib.ListN.{length, get_or, set, length-set}
 use lib.Seq.{get_or-set_same, get_or-set_other}
 use Rattle.laws.specs.Sums.{sumOver, only, count}
 use Rattle.laws.proofs.Tests.{both}
-use Rattle.laws.proofs.Sums.{sum-same, sum-zero, sum-ge, over-set, over-push, count-le, count-mono, some-above}
+use Rattle.laws.proofs.Sums.{sum-same, sum-zero, over-set, over-push}
 use Rattle.laws.proofs.Search.{first-holds}
 use Rattle.laws.proofs.Lists.{unseen}
-use Rattle.laws.proofs.Only.{only-eq, only-ne, only-same, only-other, only-above}
+use Rattle.laws.proofs.Only.{only-eq, only-ne, only-same, only-other}
 use Rattle.credit_math.specs.Limits.{maxOrders}
 use Rattle.book.specs.Limits.{maxFills}
 use Rattle.book.specs.Book.{noOrder, noFill, buySide, sellSide}
@@ -25,7 +25,7 @@ use Rattle.book.specs.declared.Fill.{Fill}
 use Rattle.auction_engine.specs.declared.Session.{Session}
 use Rattle.auction_engine.specs.Session.{orderAt, fillAt, left, allocating}
 use Rattle.auction_engine.specs.Call.{limitsRefusal, fieldsRefusal}
-use Rattle.auction_engine.specs.Matching.{lessLeft, dueOn, dueAt, buyAt, sellAt, due, dueQty, pair, one, afterFills}
+use Rattle.auction_engine.specs.Matching.{lessLeft, dueOn, dueAt, buyAt, sellAt, due, dueQty, pair, one}
 use Rattle.course.specs.Demand3.{soldBy, sold}
 
 -- an order's lot, and what is left of it, on one side only
@@ -38,10 +38,6 @@ leftOn side o = only (eqb o.side side) o.alloc_left
 -- the orders with a lot
 abbrev pub lotCount : Session → ℕ
 lotCount s = count (λ i. ltb 0 (orderAt s i).alloc) s.order_count
-
--- the orders with something left
-abbrev pub leftCount : Session → ℕ
-leftCount s = sumOver (λ o. min 1 o.alloc_left) noOrder s.orders s.order_count
 
 -- what is used of a session just cleared: every lot is whole, and each side's lots add up to the volume
 pub record Allotted (s : Session) : Type 0 where
@@ -70,17 +66,6 @@ pub record Kept (s₀ t : Session) : Type 0 where
   pub side : (i : ℕ) → (orderAt t i).side ≡ (orderAt s₀ i).side
   pub sells : (i : ℕ) → i < s₀.order_count → (orderAt s₀ i).side ≡ sellSide → sold t (orderAt s₀ i).owner + left t i ≡ (orderAt s₀ i).alloc
   pub volume : sumOver (λ f. f.qty) noFill t.fills t.fill_count + sumOver (leftOn buySide) noOrder t.orders t.order_count ≡ s₀.cleared.cleared_volume
-
--- and what fills keep beside it: each leaves fewer orders with something left, and the last one two fewer
-pub record KeptByFills (s₀ t : Session) : Type 0 where
-  pub kept : Kept s₀ t
-  pub bound : t.fill_count + max 1 (leftCount t) ≤ lotCount s₀
-
-pub lots-few : (s : Session) → lotCount s ≤ s.order_count
-lots-few s = count-le (λ i. ltb 0 (orderAt s i).alloc) s.order_count
-
-pub room : (s₀ t : Session) → Allotted s₀ → KeptByFills s₀ t → t.fill_count < maxFills
-room s₀ t A C = omega (arith, C.bound, lots-few s₀, A.few)
 
 -- order b can buy q of order a
 pub record Fits (t : Session) (b a q : ℕ) : Type 0 where
@@ -121,7 +106,7 @@ module _ (s₀ t : Session) (A : Allotted s₀) (K : Kept s₀ t) (b a q : ℕ) 
   unfolding half
   buyer-left = left-half b apart ∙ ap (λ (o : Order). o.alloc_left) (get_or-set_same t.orders b (lessLeft (orderAt t b) q) noOrder b-place)
 
-  other-left : (i : ℕ) → i ≢ b → i ≢ a → left (pair t b a q) i ≡ left t i
+  pub other-left : (i : ℕ) → i ≢ b → i ≢ a → left (pair t b a q) i ≡ left t i
   unfolding half
   other-left i p r = left-half i r ∙ ap (λ (o : Order). o.alloc_left) (get_or-set_other t.orders b i (lessLeft (orderAt t b) q) noOrder p)
 
@@ -201,16 +186,6 @@ module _ (s₀ t : Session) (A : Allotted s₀) (K : Kept s₀ t) (b a q : ℕ) 
           );
         }
 
--- of two orders with something left a fill of the smaller leaves at least one with nothing
-one-spent : (x y : ℕ) → min 1 (x - min x y) + min 1 (y - min x y) ≤ 1
-one-spent x y = omega arith
-
-both-left : (n m x y u v : ℕ) → m + min 1 x + min 1 y ≡ n + u + v → 0 < x → 0 < y → m + 1 + 1 ≡ n + u + v
-both-left n m x y u v e p q = omega arith
-
-fewer-left : (n m u v : ℕ) → m + 1 + 1 ≡ n + u + v → u + v ≤ 1 → u ≤ m → v ≤ m → suc (max 1 m) ≤ n
-fewer-left n m u v e h p q = omega arith
-
 -- where a fill is due
 pub record Due (t : Session) : Type 0 where
   pub fits : Fits t (buyAt t) (sellAt t) (dueQty t)
@@ -235,24 +210,6 @@ pub due-count : (t : Session) (b a q : ℕ) → (pair t b a q).fill_count ≡ t.
 unfolding pair
 due-count t b a q = refl
 
-module _ (s₀ t : Session) (A : Allotted s₀) (K : Kept s₀ t) (D : Due t) where
-  abbrev next : Session
-  next = pair t (buyAt t) (sellAt t) (dueQty t)
-
-  left-within : (i : ℕ) → i < t.order_count → min 1 (left next i) ≤ leftCount next
-  unfolding pair sumOver
-  left-within i l = sum-ge (λ j. min 1 (left next j)) t.order_count i l
-
-  pub fill-leaves : suc (max 1 (leftCount next)) ≤ leftCount t
-  unfolding pair
-  fill-leaves =
-      fewer-left (leftCount t) (leftCount next) (min 1 (left t (buyAt t) - dueQty t)) (min 1 (left t (sellAt t) - dueQty t))
-      (both-left (leftCount t) (leftCount next) (left t (buyAt t)) (left t (sellAt t)) _ _
-      (orders-sum s₀ t A K (buyAt t) (sellAt t) (dueQty t) D.fits (λ o. min 1 o.alloc_left)) D.b-left D.a-left)
-      (one-spent (left t (buyAt t)) (left t (sellAt t)))
-      (subst (λ x. min 1 x ≤ leftCount next) (buyer-left s₀ t A K (buyAt t) (sellAt t) (dueQty t) D.fits) (left-within (buyAt t) D.fits.b<n))
-      (subst (λ x. min 1 x ≤ leftCount next) (seller-left s₀ t A K (buyAt t) (sellAt t) (dueQty t) D.fits) (left-within (sellAt t) D.fits.a<n))
-
 pub one-due : (t : Session) → due t ≡ true → one t ≡ pair t (buyAt t) (sellAt t) (dueQty t)
 unfolding one
 one-due t e = rw e
@@ -261,56 +218,17 @@ pub one-idle : (t : Session) → due t ≡ false → one t ≡ t
 unfolding one
 one-idle t e = rw e
 
-pub one-keeps : (s₀ t : Session) → Allotted s₀ → KeptByFills s₀ t → KeptByFills s₀ (one t)
-one-keeps s₀ t A C = go (due t) refl
-  where
-    go : (x : Bool) → due t ≡ x → KeptByFills s₀ (one t)
-    go false e = rw (one-idle t e) C
-    go true e =
-        let D = due-at t e in
-        rw (one-due t e) (record {
-          kept = pair-kept s₀ t A C.kept (buyAt t) (sellAt t) (dueQty t) D.fits (room s₀ t A C);
-          bound = omega (arith, C.bound, due-count t (buyAt t) (sellAt t) (dueQty t), fill-leaves s₀ t A C.kept D);
-        })
-
-pub after-fills-keeps : (s₀ : Session) → Allotted s₀ → (n : ℕ) (t : Session) → KeptByFills s₀ t → KeptByFills s₀ (afterFills n t)
-unfolding afterFills
-after-fills-keeps s₀ A zero t C = C
-after-fills-keeps s₀ A (suc n) t C = after-fills-keeps s₀ A n (one t) (one-keeps s₀ t A C)
-
--- a session with a volume has an order with a lot
-lot-on-is : (side : ℕ) (o : Order) → ltb 0 (lotOn side o) ≡ true → ltb 0 o.alloc ≡ true
-lot-on-is side o = go (eqb o.side side)
-  where
-    go : (x : Bool) → ltb 0 (only x o.alloc) ≡ true → ltb 0 o.alloc ≡ true
-    go true h = h
-    go false h = absurd (omega (arith, ltb-true 0 0 h))
-
-some-lot : (s : Session) → Allotted s → 0 < lotCount s
-unfolding sumOver
-some-lot s A =
-    omega (
-      arith,
-      some-above (λ i. lotOn buySide (orderAt s i)) s.order_count (omega (arith, A.traded, A.bought)),
-      count-mono (λ i. ltb 0 (lotOn buySide (orderAt s i))) (λ i. ltb 0 (orderAt s i).alloc) s.order_count (λ i _ h. lot-on-is buySide (orderAt s i) h),
-    )
-
 module _ (s : Session) (A : Allotted s) where
   pub whole-on : (side : ℕ) → sumOver (leftOn side) noOrder s.orders s.order_count ≡ sumOver (lotOn side) noOrder s.orders s.order_count
   unfolding sumOver
   whole-on side =
       sum-same (λ i. leftOn side (orderAt s i)) (λ i. lotOn side (orderAt s i)) s.order_count (λ i l. ap (only (eqb (orderAt s i).side side)) (A.whole i l))
 
-  whole-count : leftCount s ≡ lotCount s
-  unfolding sumOver count
-  whole-count =
-      sum-same (λ i. min 1 (left s i)) (λ i. only (ltb 0 (orderAt s i).alloc) 1) s.order_count (λ i l. ap (min 1) (A.whole i l) ∙ sym (only-above (orderAt s i).alloc))
-
   no-fills : (f : Fill → ℕ) → sumOver f noFill s.fills s.fill_count ≡ 0
   unfolding sumOver
   no-fills f = sum-zero (λ i. f (fillAt s i)) s.fill_count (λ i l. absurd (omega (arith, A.no-fill)))
 
-  start-kept : Kept s s
+  pub start-kept : Kept s s
   start-kept =
       record {
         order-places = A.order-places;
@@ -321,6 +239,3 @@ module _ (s : Session) (A : Allotted s) where
         sells = λ i l _. omega (arith, A.whole i l, no-fills (soldBy (orderAt s i).owner));
         volume = omega (arith, A.bought, no-fills (λ f. f.qty), whole-on buySide);
       }
-
-  pub kept-by-fills : (k : ℕ) → KeptByFills s (afterFills k s)
-  kept-by-fills k = after-fills-keeps s A k s (record { kept = start-kept; bound = omega (arith, A.no-fill, some-lot s A, whole-count) })

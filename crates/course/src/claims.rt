@@ -4,6 +4,7 @@ ghost use Rattle.std.specs.Prelude.{ℤ};
 ghost use Rattle.auction_engine.specs.declared.Session.{Session};
 ghost use Rattle.course.specs.Demand2.{Demand2};
 ghost use Rattle.course.specs.Demand3.{Demand3, Completion};
+ghost use Rattle.course.specs.FillCount.{FillsBeforeCrank};
 ghost use Rattle.course.specs.Lines.{LinesTell};
 ghost use Rattle.course.specs.Refusals.{RefusedByItsRow, RecordRefusedByItsRow};
 ghost use Rattle.course.specs.Applied.{RunIsAnswers, ApplyIsRun};
@@ -20,6 +21,10 @@ pub fn demand3()
 
 pub fn completion()
     ensures { Completion }
+{}
+
+pub fn fills_before_crank()
+    ensures { FillsBeforeCrank }
 {}
 
 pub fn lines_tell()

@@ -1,0 +1,39 @@
+-- 'The number of fills, before the crank': the figure of a session just cleared, and what its cranks make. proofs/FillCount.antt proves it.
+use Rattle.std.specs.Prelude.{◌≡◌, true, List, ◌++◌, ℕ, ◌≤◌, ◌<◌}
+use Rattle.laws.specs.Lists.{table}
+use Rattle.fills.specs.FillCount.{fillCount, fillCountAnswer}
+use Rattle.auction_engine.specs.declared.Session.{Session}
+use Rattle.auction_engine.specs.Session.{orderAt}
+use Rattle.auction_engine.specs.Call.{Call}
+use Rattle.course.specs.Demand3.{after, JustCleared, lotOf, ordersWithLot}
+
+-- 'the lots alone, lent with their sides in book order'
+abbrev pub lotsOf : {s : Session} → JustCleared s → List ℕ
+lotsOf {s} j = table (lotOf j) s.order_count
+
+abbrev pub sidesOf : Session → List ℕ
+sidesOf s = table (λ i. (orderAt s i).side) s.order_count
+
+-- the figure of a session just cleared
+abbrev pub figure : {s : Session} → JustCleared s → ℕ
+figure {s} j = fillCount (lotsOf j) (sidesOf s)
+
+-- the lots as its orders hold them
+abbrev pub heldLots : Session → List ℕ
+heldLots s = table (λ i. (orderAt s i).alloc) s.order_count
+
+-- of one session just cleared
+pub record ExactFigure {s : Session} (j : JustCleared s) : Type 0 where
+  -- lent the lots and sides that the session holds, `fill_count` refuses nothing and gives the figure
+  pub answered : fillCountAnswer (heldLots s) (sidesOf s) ≡ record { refusal = 0; count = figure j }
+  -- 'The figure must equal the fills made by any cranks that complete the matching of a just cleared file session'
+  pub exact : (l : List Call) → (after s l).complete ≡ true → (after s l).crankFills ≡ figure j
+  -- and it stays so whatever calls follow, an expire too
+  pub stays : (l k : List Call) → (after s l).complete ≡ true → (after s (l ++ k)).crankFills ≡ figure j
+  -- 'Operators pay per fill account and must fund them ahead': no list of calls makes more, complete or not
+  pub most : (l : List Call) → (after s l).crankFills ≤ figure j
+  -- 'Demand 3 only bounds it': the figure is below the orders with a lot, and so are the fills of any list
+  pub below : figure j < ordersWithLot j
+
+abbrev pub FillsBeforeCrank : Type 0
+FillsBeforeCrank = (s : Session) (j : JustCleared s) → ExactFigure j
