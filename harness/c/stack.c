@@ -1,13 +1,14 @@
 /* How much stack a call needs: the smallest thread on which it runs, found by trying smaller and smaller ones until one crashes.
 
-     harness/run library session_file && harness/run library order_slices
-     cc -O2 -pthread -Iinclude harness/c/stack.c target/staticlib/libsession_file.a target/staticlib/liborder_slices.a -o target/stack
+     harness/run library session_file && harness/run library order_slices && harness/run library fills
+     cc -O2 -pthread -Iinclude harness/c/stack.c -Ltarget/staticlib -lsession_file -lorder_slices -lfills -o target/stack
      target/stack [FILE...]
 
-   It clears a session of its own (16 orders, 24 fills, every kind of call) and each FILE, then calls the price search and pro-rata on 16
-   records. A thread's stack also holds what the C library keeps for the thread: the first line is a thread that does nothing. The
-   numbers in include/ are from this program, with a margin. */
+   It calls the price search and pro-rata on 16 records and the number of fills on 16 lots, then clears a session of its own (16 orders, 24
+   fills, every kind of call) and each FILE. A thread's stack also holds what the C library keeps for the thread: the first line is a
+   thread that does nothing. The numbers in include/ are from this program, with a margin. */
 #define _GNU_SOURCE
+#include "fills.h"
 #include "order_slices.h"
 #include "session_file.h"
 #include <pthread.h>
@@ -87,6 +88,15 @@ static void *sharing(void *unused) {
     return allocate_pro_rata(UINT64_MAX, bids, ORDER_SLICES_MAX_ORDERS, lots, ORDER_SLICES_MAX_ORDERS) == 0 ? unused : file;
 }
 
+/* No two lots end together, so each is a fill. */
+static void *counting(void *unused) {
+    uint64_t lots[FILLS_MAX_ORDERS];
+    uint8_t sides[FILLS_MAX_ORDERS];
+    for (uint64_t i = 0; i < FILLS_MAX_ORDERS; i++) lots[i] = UINT64_MAX - i, sides[i] = i % 2;
+    struct fill_count f = fill_count(lots, FILLS_MAX_ORDERS, sides, FILLS_MAX_ORDERS);
+    return f.refusal == 0 && f.count == FILLS_MAX_ORDERS ? unused : file;
+}
+
 /* Whether the work gets done on a thread of that stack: 1, or 0 if it crashes. In a process of its own, with no memory below the stack. */
 static int runs(void *(*work)(void *), size_t stack) {
     pid_t child = fork();
@@ -123,6 +133,7 @@ int main(int argc, char **argv) {
     measure("nothing", nothing);
     measure("find_uniform_clear_price", searching);
     measure("allocate_pro_rata", sharing);
+    measure("fill_count", counting);
     full_session();
     measure("clear_session_file", clearing_own);
     for (int i = 1; i < argc; i++) {

@@ -1,7 +1,10 @@
 //! `functions [--seed S] [--cases N]`: the price search and pro-rata through the published source and through ours, on parallel slices
-//! and on records, one answer after the other; and as many tests of an order's cover, and tables of side totals.
+//! and on records, one answer after the other; and as many tests of an order's cover, tables of side totals, and numbers of fills. Then a
+//! third as many sessions that the source cleared: its cranks must make the number of fills that ours gave.
 mod case;
 mod cover;
+mod cranks;
+mod fills;
 mod records;
 mod slices;
 mod table;
@@ -28,7 +31,12 @@ fn main() -> ExitCode {
     println!("{tests} tests of cover, {wrong} different");
     let [tables, turned_away, bad] = table::compare(&mut Random(seed), count);
     println!("{tables} tables, {turned_away} of them refused, {bad} different");
-    ExitCode::from(u8::from(different + wrong + bad != 0 || !refused))
+    let [books, no_figure, tied, miscounted] = fills::compare(&mut Random(seed), count);
+    println!("{books} numbers of fills, {no_figure} of them refused, {tied} of lots that end together, {miscounted} different");
+    let sessions = count / 3;
+    let unlike = cranks::compare(&mut Random(seed), sessions);
+    println!("{sessions} cleared sessions, {unlike} different");
+    ExitCode::from(u8::from(different + wrong + bad + miscounted + unlike != 0 || !refused))
 }
 
 /// Shows how often each kind of answer was seen and the first differences.

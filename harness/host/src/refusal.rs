@@ -6,6 +6,8 @@ use std::fmt::{Display, Formatter, Result};
 #[derive(Clone, Copy, Debug, PartialEq, Eq)]
 #[repr(u8)]
 pub enum Refusal {
+    /// A side that is neither 0 nor 1.
+    BadField = 4,
     /// The session file has more than 65,536 bytes.
     InputTooLong = 26,
     /// The listing is longer than the output.
@@ -14,13 +16,14 @@ pub enum Refusal {
     InvalidInput = 28,
     /// A total above the sum of the bids.
     OverAllocation = 29,
-    /// Over 16 entries, or an output of another length.
+    /// Over 16 entries, or slices of unequal length.
     BadLength = 30,
     /// A revealed order that its escrow does not cover.
     ExceedsEscrow = 31,
 }
 
-const ALL: [Refusal; 6] = [
+const ALL: [Refusal; 7] = [
+    Refusal::BadField,
     Refusal::InputTooLong,
     Refusal::OutputTooSmall,
     Refusal::InvalidInput,
@@ -45,11 +48,12 @@ impl Refusal {
 impl Display for Refusal {
     fn fmt(&self, f: &mut Formatter) -> Result {
         let why = match self {
+            Refusal::BadField => "a side is neither 0 nor 1",
             Refusal::InputTooLong => "the session file has more than 65,536 bytes",
             Refusal::OutputTooSmall => "the listing is longer than the output",
             Refusal::InvalidInput => "a total above 0 has nothing to be shared over",
             Refusal::OverAllocation => "the total is above the sum of the bids",
-            Refusal::BadLength => "there are over 16 entries, or the output has another length",
+            Refusal::BadLength => "there are over 16 entries, or slices of unequal length",
             Refusal::ExceedsEscrow => "the escrow does not cover the order",
         };
         write!(f, "{why} (refusal {})", self.number())

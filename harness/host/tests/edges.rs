@@ -1,5 +1,5 @@
 //! The edges of the library's answers.
-use host::{allocate_pro_rata_into, find_uniform_clear_price, listing, listing_into, Bid, Order, Refusal, MAX_FILE};
+use host::{allocate_pro_rata_into, fill_count, find_uniform_clear_price, listing, listing_into, Bid, Order, Refusal, MAX_FILE};
 use std::{fs, path::Path};
 
 #[test]
@@ -45,4 +45,47 @@ fn lent_lots() {
     assert_eq!(lots, [7; 3]);
     assert_eq!(allocate_pro_rata_into(7, &bids, &mut lots[..2]), Ok(()));
     assert_eq!(lots, [5, 2, 7]);
+}
+
+#[test]
+fn entries_over_the_limit() {
+    let lots = [1; 17];
+    assert_eq!(fill_count(&lots[..16], &[0; 16]), Ok(16));
+    assert_eq!(fill_count(&lots, &[0; 17]), Err(Refusal::BadLength));
+    assert_eq!(fill_count(&[0; 17], &[0; 17]), Err(Refusal::BadLength));
+}
+
+#[test]
+fn entries_of_unequal_length() {
+    assert_eq!(fill_count(&[5, 4], &[0]), Err(Refusal::BadLength));
+    assert_eq!(fill_count(&[5], &[0, 1]), Err(Refusal::BadLength));
+    assert_eq!(fill_count(&[], &[0]), Err(Refusal::BadLength));
+    assert_eq!(fill_count(&[5], &[]), Err(Refusal::BadLength));
+}
+
+/// Also where the lot on it is 0, and after 30.
+#[test]
+fn no_such_side() {
+    assert_eq!(fill_count(&[5, 4], &[0, 2]), Err(Refusal::BadField));
+    assert_eq!(fill_count(&[5, 4, 0], &[0, 1, 255]), Err(Refusal::BadField));
+    assert_eq!(fill_count(&[5, 4], &[2]), Err(Refusal::BadLength));
+    assert_eq!(fill_count(&[5], &[0, 2]), Err(Refusal::BadLength));
+    assert_eq!(fill_count(&[1; 17], &[2; 17]), Err(Refusal::BadLength));
+}
+
+#[test]
+fn no_lots() {
+    assert_eq!(fill_count(&[], &[]), Ok(0));
+    assert_eq!(fill_count(&[0; 16], &[0, 1, 0, 1, 0, 1, 0, 1, 0, 1, 0, 1, 0, 1, 0, 1]), Ok(0));
+    assert_eq!(fill_count(&[0, 0, 5, 0, 5], &[0, 1, 0, 1, 1]), Ok(1));
+}
+
+/// Sums are not cut at 64 bits, and the sides need no one total.
+#[test]
+fn sums_past_64_bits() {
+    const MAX: u64 = u64::MAX;
+    assert_eq!(fill_count(&[MAX, MAX, MAX - 1], &[0, 0, 1]), Ok(3));
+    assert_eq!(fill_count(&[MAX, 1, 2, MAX, 1], &[0, 0, 0, 1, 1]), Ok(3));
+    assert_eq!(fill_count(&[MAX, 3, 2], &[0, 0, 1]), Ok(3));
+    assert_eq!(fill_count(&[MAX; 16], &[0, 0, 0, 0, 0, 0, 0, 0, 1, 1, 1, 1, 1, 1, 1, 1]), Ok(8));
 }

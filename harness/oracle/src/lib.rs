@@ -13,6 +13,6 @@ mod reader;
 pub mod record;
 pub mod single_call;
 
-pub use auction_engine::{MAX_FILLS, MAX_ORDERS};
+pub use auction_engine::{Phase, MAX_FILLS, MAX_ORDERS};
 pub use listing::{listing, listing_with_states, quick_listing};
 pub use reader::{session_after, width, MAX_DECIMALS, MAX_FILE};

@@ -6,7 +6,7 @@ mod cover;
 mod damage;
 mod style;
 
-use crate::engine::{self, State};
+use crate::engine::{self, Answer, State};
 use crate::random::Random;
 use auction_engine::Phase;
 use style::Style;
@@ -55,6 +55,19 @@ pub fn long(r: &mut Random) -> Vec<u8> {
             state.session = before.1;
         }
     }
+}
+
+/// A session that just cleared: of a book whose orders were screened in turn, some of them excluded. Nothing where a record is turned
+/// away, a call is refused, or the session fails.
+pub fn cleared(r: &mut Random) -> Option<State> {
+    let style = Style { noise: 0, ..Style::any(r) };
+    let mut state = crate::session_after(&book::book(r, &style))?;
+    state.quick = true;
+    while matches!(state.session.phase, Phase::Reveal | Phase::Clearing) {
+        let call = calls::call(r, &style, &state);
+        let Answer::Done(_) = engine::run(&mut state, &call) else { return None };
+    }
+    (state.session.phase == Phase::Allocating).then_some(state)
 }
 
 fn with_style(r: &mut Random, style: &Style) -> Vec<u8> {
