@@ -1,4 +1,4 @@
-// The worked examples of document 01, run: a label, a colon, and what the function answers.
+// The worked examples of document 01 and of the number of fills, run: a label, a colon, and what the function answers.
 #![tactic(auto)]
 
 ghost use Rattle.worked_examples.specs.Examples.{All, examples};
@@ -17,6 +17,7 @@ fn main(rt: HostRuntime) {
     show_marked_lots(&rt);
     show_marked_bands(&rt);
     show_wide_volumes(&rt);
+    show_fills(&rt);
 }
 
 fn show_marked_prices(rt: &impl Print) {
@@ -91,6 +92,32 @@ fn show_wide_volumes(rt: &impl Print) {
     );
 }
 
+// Those of the table of `fills`, but for the refusal of too many.
+fn show_fills(rt: &impl Print) {
+    let most: u64 = 0xffff_ffff_ffff_ffff;
+    show_count(
+        rt,
+        "fills of 5, 2 against 4, 3",
+        &[5, 2, 4, 3],
+        &[0, 0, 1, 1],
+    );
+    show_count(
+        rt,
+        "fills of 0, 5 against 0, 5",
+        &[0, 5, 0, 5],
+        &[0, 0, 1, 1],
+    );
+    show_count(rt, "fills of 1 against 2, 1", &[1, 2, 1], &[0, 1, 1]);
+    show_count(
+        rt,
+        "fills of 2^64 - 1 twice against 2^64 - 2",
+        &[most, most, most - 1],
+        &[0, 0, 1],
+    );
+    show_count(rt, "fills of a lot without a side", &[1], &[]);
+    show_count(rt, "fills of a zero lot on side 2", &[0], &[2]);
+}
+
 fn show_pair(rt: &impl Print, label: &str, reserve: u64, reference: u64) {
     show_price(
         rt,
@@ -153,6 +180,18 @@ fn show_band(rt: &impl Print, label: &str, price: u64, band_bps: u64) {
     } else {
         say(rt, ":");
         show_number(rt, band.price);
+    }
+    say(rt, "\n");
+}
+
+fn show_count(rt: &impl Print, label: &str, lots: &[u64], sides: &[u8]) {
+    say(rt, label);
+    let answer = fills::fill_count(lots, sides);
+    if answer.refusal != 0 {
+        show_refusal(rt, answer.refusal);
+    } else {
+        say(rt, ":");
+        show_number(rt, answer.count);
     }
     say(rt, "\n");
 }
