@@ -26,8 +26,7 @@ struct fill_count {
     uint64_t count;
 };
 
-/* The number of fills that the cranks will make, from each order's lot and its side, 0 a buy and 1 a sell, in book order. An order without
-   a lot may stand there with 0 or be left out. */
+/* The number of fills that the cranks will make, from each order's lot, 0 if it has none, and its side, 0 a buy and 1 a sell, in book order. */
 struct fill_count fill_count(const uint64_t *lots, size_t lots_len, const uint8_t *sides, size_t sides_len);
 
 #ifdef __cplusplus

@@ -1,9 +1,9 @@
--- Allowances that add up to one less than the most orders complete every matching that no expire ends. Assumes nothing.
+-- Allowances that add up to the fills to come complete every matching that no expire ends. Assumes nothing.
 use mathlib.Core.Path.{◌≡◌, refl, sym, ap, ◌∙◌, subst}
 use mathlib.Core.Logic.{◌≢◌, ◌⊎◌, inl, inr}
 use mathlib.Core.Bool.{Bool, true, false, cond, not, ◌&&◌, ◌||◌, or-true, false≢true}
 use mathlib.Core.List.{List, [], ◌∷◌}
-use Prim.Native.Nat.{ℕ, suc, ◌+◌, ◌≤◌}
+use Prim.Native.Nat.{ℕ, ◌+◌, ◌≤◌}
 use native.Mathlib.Nat.{add_assoc, add-zero}
 use native.Mathlib.Omega.{arith}
 use borrow.Author.Tests.{eqb-true, eqb-false, ne_eqb}
@@ -21,7 +21,7 @@ use Rattle.auction_engine.specs.Engine.{ownRefusal, refusal, effect}
 use Rattle.course.specs.Course.{Run, begin, note, advance, run}
 use Rattle.course.specs.Demand3.{after, allowance, allowances, isExpire, expires}
 use Rattle.course.proofs.Matching.{Allotted}
-use Rattle.course.proofs.ToCome.{room, kept-by-fills}
+use Rattle.course.proofs.ToCome.{toCome, room, kept-by-fills}
 use Rattle.course.proofs.Fills.{after-fills-add, after-fills-phase, after-fills-params, after-fills-given}
 use Rattle.course.proofs.Checked.{limits-kept, fields-kept}
 use Rattle.course.proofs.Accepted.{noted, Early, early-screen, early-clear, exercised, at-close, settles, skips, at-finish}
@@ -137,13 +137,13 @@ module _ (s : Session) (A : Allotted s) where
       let e : (advance (begin r.session) c).session ≡ (advance r c).session = advance-session (begin r.session) c ∙ sym (advance-session r c) in
       rw add_assoc at (run-on l (advance r c) (k + allowance c) (advance-on r c k o w.0) (subst (λ t. expires t l ≡ false) e w.1))
 
-  pub completes : (limit : ℕ) → s.order_count ≤ limit → (l : List Call) → limit ≤ suc (allowances l) → expires s l ≡ false → (after s l).complete ≡ true
+  pub completes : (l : List Call) → toCome s ≤ allowances l → expires s l ≡ false → (after s l).complete ≡ true
   unfolding afterFills
-  completes limit h l m x = go (run-on l (begin s) 0 (inl start) x)
+  completes l m x = go (run-on l (begin s) 0 (inl start) x)
     where
       start : Going (begin s) 0
       start = record { is = refl; unfinished = open-start s A }
 
       go : On (after s l) (0 + allowances l) → (after s l).complete ≡ true
       go (inr c) = c
-      go (inl G) = absurd (false≢true (sym G.unfinished ∙ enough s A limit (0 + allowances l) h (omega arith)))
+      go (inl G) = absurd (false≢true (sym G.unfinished ∙ enough s A (0 + allowances l) (omega (arith, m))))

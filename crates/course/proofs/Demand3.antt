@@ -3,12 +3,11 @@ use mathlib.Core.Path.{◌≡◌, ap, ◌∙◌}
 use native.Mathlib.Omega.{arith}
 use lib.Dec.{ltb}
 use Rattle.laws.proofs.Sums.{count-same}
-use Rattle.credit_math.specs.Limits.{maxOrders}
 use Rattle.auction_engine.specs.declared.Session.{Session}
 use Rattle.auction_engine.specs.Session.{orderAt}
 use Rattle.course.specs.Demand3.{JustCleared, after, lotOf, ordersWithLot, Demand3, Completion}
 use Rattle.course.proofs.Matching.{lotCount}
-use Rattle.course.proofs.ToCome.{few-to-come}
+use Rattle.course.proofs.ToCome.{few-to-come, lots-few}
 use Rattle.course.proofs.Invariant.{few-made, reached}
 use Rattle.course.proofs.Ends.{ends-agree, ends-printed, ends-sold, ends-volume, ends-past}
 use Rattle.course.proofs.Start.{Starts, starts}
@@ -32,5 +31,5 @@ demand3 s j =
 pub completion : Completion
 completion s j l m x =
     let A = (starts s j).allotted in
-    let c = completes s A maxOrders A.few l m x in
+    let c = completes s A l (omega (arith, m, few-to-come s A, lots-few s, A.few)) x in
     (c, ends-past s A l c)

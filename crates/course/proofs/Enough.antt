@@ -1,4 +1,5 @@
--- How many fills complete a matching: until it is complete each that is allowed is made, so one less than the orders is enough. Assumes nothing.
+-- How many fills complete a matching: until it is complete each that is allowed is made, so as many as are to come at the start are enough.
+-- Assumes nothing.
 use mathlib.Core.Path.{◌≡◌, refl, sym, ap, ◌∙◌}
 use mathlib.Core.Bool.{Bool, true, false, ◌&&◌, and-false, false≢true}
 use Prim.Native.Nat.{ℕ, zero, suc, ◌+◌, ◌-◌, ◌≤◌, ◌<◌}
@@ -17,7 +18,7 @@ use Rattle.auction_engine.specs.declared.Session.{Session}
 use Rattle.auction_engine.specs.Session.{orderAt, left}
 use Rattle.auction_engine.specs.Matching.{dueAt, buyAt, sellAt, due, dueQty, pair, one, afterFills, overfull, done}
 use Rattle.course.proofs.Matching.{Allotted, Kept, Fits, lotOn, leftOn, orders-sum, due-at, due-count, one-due, one-idle, whole-on}
-use Rattle.course.proofs.ToCome.{KeptByFills, before-due, few-to-come, lots-few, room, one-keeps, kept-by-fills, at-most}
+use Rattle.course.proofs.ToCome.{KeptByFills, toCome, before-due, room, one-keeps, kept-by-fills, at-most}
 use Rattle.course.proofs.Fills.{after-fills-last, done-after-fills, done-left}
 
 -- what one side has left
@@ -109,13 +110,13 @@ module _ (s : Session) (A : Allotted s) where
       go false d ih = omega (arith, one-more k d, ih d)
       go true d ih = absurd (false≢true (sym e ∙ ap done (after-fills-last k s ∙ done-after-fills 1 (afterFills k s) d) ∙ d))
 
-  -- one less than a number that the orders do not pass is enough
-  pub enough : (limit k : ℕ) → s.order_count ≤ limit → limit ≤ suc k → done (afterFills k s) ≡ true
-  enough limit k h l = go (done (afterFills k s)) refl
+  -- as many as are to come at the start are enough
+  pub enough : (k : ℕ) → toCome s ≤ k → done (afterFills k s) ≡ true
+  enough k l = go (done (afterFills k s)) refl
     where
       go : (x : Bool) → done (afterFills k s) ≡ x → done (afterFills k s) ≡ true
       go true d = d
-      go false d = absurd (omega (arith, at-most s A (suc k), few-to-come s A, lots-few s, one-more k d, used k d))
+      go false d = absurd (omega (arith, l, at-most s A (suc k), one-more k d, used k d))
 
   -- at the start the matching is open
   pub open-start : done s ≡ false

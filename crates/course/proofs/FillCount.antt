@@ -25,6 +25,7 @@ use Rattle.course.proofs.ToCome.{lefts, toCome, kept-by-fills, few-to-come, none
 use Rattle.course.proofs.Fills.{done-left}
 use Rattle.course.proofs.Accepted.{noted}
 use Rattle.course.proofs.Invariant.{Stage, in-matching, in-rofr, in-settling, in-print, in-failure, few-made, reached}
+use Rattle.course.proofs.Completes.{completes}
 use Rattle.course.proofs.Start.{Starts, starts}
 use Rattle.course.proofs.Demand3.{same-lots}
 
@@ -100,6 +101,7 @@ module _ (s : Session) (j : JustCleared s) where
         answered =
             answer-table (λ i. (orderAt s i).alloc) (λ i. (orderAt s i).side) s.order_count A.few A.sides ∙ ap (λ n. record { refusal = 0; count = n }) (held-figure s j);
         exact = exactly-made;
+        completed = λ l m x. completes s A l (omega (arith, m, is-figure)) x;
         stays = λ l k c.
             omega (arith, exactly-made l c, run-grows k (after s l), ap (λ (r : Run). r.crankFills) (run-append l k (begin s)), most-made (l ++ k));
         most = most-made;

@@ -1,11 +1,11 @@
 -- 'The number of fills, before the crank': the figure of a session just cleared, and what its cranks make. proofs/FillCount.antt proves it.
-use Rattle.std.specs.Prelude.{◌≡◌, true, List, ◌++◌, ℕ, ◌≤◌, ◌<◌}
+use Rattle.std.specs.Prelude.{◌≡◌, true, false, List, ◌++◌, ℕ, ◌≤◌, ◌<◌}
 use Rattle.laws.specs.Lists.{table}
 use Rattle.fills.specs.FillCount.{fillCount, fillCountAnswer}
 use Rattle.auction_engine.specs.declared.Session.{Session}
 use Rattle.auction_engine.specs.Session.{orderAt}
 use Rattle.auction_engine.specs.Call.{Call}
-use Rattle.course.specs.Demand3.{after, JustCleared, lotOf, ordersWithLot}
+use Rattle.course.specs.Demand3.{after, JustCleared, lotOf, ordersWithLot, allowances, expires}
 
 -- 'the lots alone, lent with their sides in book order'
 abbrev pub lotsOf : {s : Session} → JustCleared s → List ℕ
@@ -30,6 +30,8 @@ pub record ExactFigure {s : Session} (j : JustCleared s) : Type 0 where
   pub exact : (l : List Call) → (after s l).complete ≡ true → (after s l).crankFills ≡ figure j
   -- and it stays so whatever calls follow, an expire too
   pub stays : (l k : List Call) → (after s l).complete ≡ true → (after s (l ++ k)).crankFills ≡ figure j
+  -- there are such lists: allowances that add up to the figure complete every matching that no expire ends
+  pub completed : (l : List Call) → figure j ≤ allowances l → expires s l ≡ false → (after s l).complete ≡ true
   -- 'Operators pay per fill account and must fund them ahead': no list of calls makes more, complete or not
   pub most : (l : List Call) → (after s l).crankFills ≤ figure j
   -- 'Demand 3 only bounds it': the figure is below the orders with a lot, and so are the fills of any list

@@ -1,15 +1,18 @@
 -- Counting the fills: what a hand has ahead of it, and what a turn leaves. Assumes nothing.
-use mathlib.Core.Path.{◌≡◌, sym, ap, ap₂, ◌∙◌}
+use mathlib.Core.Path.{◌≡◌, refl, sym, ap, ap₂, ◌∙◌}
 use mathlib.Core.Logic.{◌≢◌}
+use mathlib.Core.Bool.{Bool, true, false, ◌||◌}
 use mathlib.Core.List.{List, [], ◌∷◌}
 use Prim.Native.Nat.{ℕ, suc, ◌+◌, ◌-◌, ◌≤◌, ◌<◌}
 use native.Mathlib.Decide.{ℕ_discrete}
 use native.Mathlib.Numerals.{add-one}
 use native.Mathlib.Omega.{arith}
-use borrow.Author.Tests.{eq-eqb, ne_eqb}
+use borrow.Author.Tests.{eq-eqb, ne_eqb, ltb-true, ltb-false}
+use lib.Dec.{ltb}
 use lib.ListN.{length, drop, drop_of_length-le}
 use lib.Seq.{drop-cons}
 use Rattle.laws.specs.Lists.{table, keep}
+use Rattle.laws.proofs.Tests.{neither}
 use Rattle.laws.proofs.Lists.{length-table, get_or-table}
 use Rattle.credit_math.specs.Limits.{maxOrders}
 use Rattle.book.specs.Book.{buySide, sellSide}
@@ -40,16 +43,16 @@ module _ (side : ℕ) (lots sides : List ℕ) where
       ∙ ap nonzero (drop_of_length-le (table (lotOn side lots sides) (length lots)) {i = hand.next} (omega (arith, length-table (lotOn side lots sides) (length lots), l)))
 
   -- before the first order everything is ahead
-  pub all-ahead : (hand : Hand) → hand.left ≡ 0 → hand.next ≡ 0 → nonzero (ahead side lots sides hand) ≡ nonzero (table (lotOn side lots sides) (length lots))
+  all-ahead : (hand : Hand) → hand.left ≡ 0 → hand.next ≡ 0 → nonzero (ahead side lots sides hand) ≡ nonzero (table (lotOn side lots sides) (length lots))
   unfolding ahead
   all-ahead hand e z = rw z (nonzero-none hand.left (table (lotOn side lots sides) (length lots)) e)
 
 -- What a fill leaves
 
-pub less-lone : (x y : ℕ) → y ≡ 0 → lessOther x y ≡ 0
+less-lone : (x y : ℕ) → y ≡ 0 → lessOther x y ≡ 0
 less-lone x y e = rw (eq-eqb y 0 e)
 
-pub less-of : (x y : ℕ) → y ≢ 0 → lessOther x y ≡ x - y
+less-of : (x y : ℕ) → y ≢ 0 → lessOther x y ≡ x - y
 less-of x y e = rw (ne_eqb y 0 e)
 
 less-none : (x y : ℕ) → x ≡ 0 → lessOther x y ≡ 0
@@ -60,7 +63,7 @@ less-none x y e = go (ℕ_discrete y 0)
     go (no d) = less-of x y d ∙ (let z : x - y ≡ 0 = omega arith in z)
 
 -- one fill fewer to come: both hands hold a lot, or a side has run out
-pub one-fewer : (x y : ℕ) (l k : List ℕ) → 0 < x + y → (x ≡ 0 → nonzero (x ∷ l) ≡ []) → (y ≡ 0 → nonzero (y ∷ k) ≡ [])
+one-fewer : (x y : ℕ) (l k : List ℕ) → 0 < x + y → (x ≡ 0 → nonzero (x ∷ l) ≡ []) → (y ≡ 0 → nonzero (y ∷ k) ≡ [])
     → fillsOf (x ∷ l) (y ∷ k) ≡ suc (fillsOf (lessOther x y ∷ l) (lessOther y x ∷ k))
 one-fewer x y l k h hx hy = go (ℕ_discrete x 0) (ℕ_discrete y 0)
   where
@@ -75,14 +78,27 @@ one-fewer x y l k h hx hy = go (ℕ_discrete x 0) (ℕ_discrete y 0)
     go (no e) (no d) =
         fill-next x y l k (omega arith) (omega arith) ∙ ap suc (ap₂ (λ u v. fillsOf (u ∷ l) (v ∷ k)) (sym (less-of x y d)) (sym (less-of y x e)))
 
+-- what the loop's test says of two hands
+pub some-left : (x y : ℕ) (t : Bool) → t ≡ (ltb 0 x || ltb 0 y) → t ≡ true → 0 < x + y
+some-left x y t e h = go (ltb 0 x) refl (sym e ∙ h)
+  where
+    go : (b : Bool) → ltb 0 x ≡ b → b || ltb 0 y ≡ true → 0 < x + y
+    go true d _ = omega (arith, ltb-true 0 x d)
+    go false d w = omega (arith, ltb-true 0 y w)
+
+pub none-left : (x y : ℕ) (t : Bool) → t ≡ (ltb 0 x || ltb 0 y) → t ≡ false → (x ≡ 0) × (y ≡ 0)
+none-left x y t e h =
+    let n = neither (ltb 0 x) (ltb 0 y) (sym e ∙ h) in
+    (omega (arith, ltb-false 0 x n.0), omega (arith, ltb-false 0 y n.1))
+
 module _ (lots sides : List ℕ) where
-  -- the fills to come from two hands
-  abbrev pub toCome : Hand → Hand → ℕ
-  toCome buy sell = fillsOf (ahead buySide lots sides buy) (ahead sellSide lots sides sell)
+  -- the fills ahead of two hands
+  abbrev fillsAhead : Hand → Hand → ℕ
+  fillsAhead buy sell = fillsOf (ahead buySide lots sides buy) (ahead sellSide lots sides sell)
 
   -- the fills counted and those to come are all
   pub record Counting (buy sell : Hand) (count : ℕ) : Type 0 where
-    pub all : count + toCome buy sell ≡ fillCount lots sides
+    pub all : count + fillsAhead buy sell ≡ fillCount lots sides
     pub no-buy : buy.left ≡ 0 → nonzero (ahead buySide lots sides buy) ≡ []
     pub no-sell : sell.left ≡ 0 → nonzero (ahead sellSide lots sides sell) ≡ []
     pub buys : buy.next ≤ length lots
@@ -110,7 +126,7 @@ module _ (lots sides : List ℕ) where
   module _ (buy sell : Hand) (count : ℕ) (C : Counting buy sell count) where
     -- a turn makes one of them
     turn : 0 < buy.left + sell.left
-        → toCome buy sell ≡ suc (toCome (record { left = lessOther buy.left sell.left; next = buy.next }) (record { left = lessOther sell.left buy.left; next = sell.next }))
+        → fillsAhead buy sell ≡ suc (fillsAhead (record { left = lessOther buy.left sell.left; next = buy.next }) (record { left = lessOther sell.left buy.left; next = sell.next }))
     unfolding ahead
     turn h = one-fewer buy.left sell.left _ _ h C.no-buy C.no-sell
 
@@ -119,7 +135,7 @@ module _ (lots sides : List ℕ) where
         → Counting newBuy newSell (count + 1)
     turns h x y newBuy newSell ex ey b s =
         let n = same-fills (ahead buySide lots sides newBuy) (ahead sellSide lots sides newSell) _ _ b.same s.same in
-        let e = ap₂ (λ u v. toCome (record { left = u; next = buy.next }) (record { left = v; next = sell.next })) ex ey in
+        let e = ap₂ (λ u v. fillsAhead (record { left = u; next = buy.next }) (record { left = v; next = sell.next })) ex ey in
         record {
           all = omega (arith, C.all, turn h, n, e);
           no-buy = b.none;

@@ -38,7 +38,7 @@ kept-lots p lot f (suc n) = go (p (f 0)) (ltb 0 (lot (f 0))) refl (kept-lots p l
     go true false e ih = rw e ih
     go true true e ih = rw e (ap (λ l. lot (f 0) ∷ l) ih)
 
-pub on-side : (side : ℕ) (lots sides : List ℕ) → lotsOn side lots sides ≡ nonzero (table (lotOn side lots sides) (length lots))
+on-side : (side : ℕ) (lots sides : List ℕ) → lotsOn side lots sides ≡ nonzero (table (lotOn side lots sides) (length lots))
 unfolding lotsOn lotOn
 on-side side lots sides = kept-lots (λ i. eqb (get_or sides i 0) side) (λ i. get_or lots i 0) (λ i. i) (length lots)
 

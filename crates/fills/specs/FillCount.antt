@@ -33,7 +33,7 @@ unfoldable pub fillCountRefusal : (lots sides : List ℕ) → ℕ
 fillCountRefusal lots sides =
     unless (leb (length lots) maxOrders) badLength
     then unless (eqb (length sides) (length lots)) badLength
-    then unless (every (λ i. leb (get_or sides i 0) sellSide) (length sides)) 4
+    then unless (every (λ i. leb (get_or sides i 0) 1) (length sides)) 4
 
 -- the answer; a refusal comes with no figure
 unfoldable pub fillCountAnswer : (lots sides : List ℕ) → FillCount

@@ -7,7 +7,7 @@ ghost use Rattle.fills.specs.FillCount.{fillCount, fillCountRefusal, fillCountAn
 ghost use Rattle.fills.specs.Steps.{Even, lessOther, Taken};
 
 use credit_math::MAX_ORDERS;
-use laws::checks::unless;
+use laws::checks::{either, unless};
 
 // Sides.
 const BUY: u8 = 0;
@@ -79,7 +79,7 @@ fn counted(lots: &[u64], sides: &[u8]) -> u64
     let mut buy = next_lot(lots, sides, BUY, nothing);
     let mut sell = next_lot(lots, sides, SELL, nothing);
     let mut count = 0;
-    while 0 < buy.left || 0 < sell.left {
+    while either(0 < buy.left, 0 < sell.left) {
         let bought = Hand {
             left: less(buy.left, sell.left),
             next: buy.next,
