@@ -3,74 +3,110 @@
 use mathlib.Core.Path.{◌≡◌, refl, sym, ◌∙◌, ap, subst}
 use mathlib.Core.Bool.{Bool}
 use mathlib.Core.List.{List}
-use Prim.Native.Nat.{ℕ, ◌+◌, ◌-◌, ◌*◌, ◌/◌, ◌^◌, ◌<◌, ◌≤◌, zero-le}
-use native.Mathlib.Nat.{le_antisymm, lt_of_le_of_lt}
+use Prim.Native.Nat.{ℕ, ◌+◌, ◌-◌, ◌*◌, ◌/◌, ◌%◌, ◌^◌, ◌<◌, ◌≤◌, zero-le}
+use native.Mathlib.Nat.{le_antisymm, le_trans, lt_of_le_of_lt, ne_of_gt}
 use native.Mathlib.Numerals.{add-one-le}
 use native.Mathlib.Omega.{arith}
 use lib.Dec.{ltb}
-use lib.ListN.{length, get_or}
+use lib.ListN.{length, get_or, set}
+use Rattle.std.proofs.Common.{get_or-set_other}
 use borrow.Author.Tests.{le-ltb}
 use Rattle.laws.specs.Sums.{sumBelow, only, count, sumOf}
 use Rattle.laws.specs.Lex.{lex}
+use Rattle.laws.specs.Lists.{table}
+use Rattle.laws.proofs.Lists.{length-table, get_or-table, table-same, Writing, writing, writing-more, written}
 use Rattle.laws.proofs.Sums.{sum-none, sum-more, sum-mono, sum-step, sum-end, only-one}
 use Rattle.wide.specs.Value.{value}
 use Rattle.wide.specs.declared.Wide.{Wide}
 use Rattle.wide.proofs.Words.{word-low}
-use Rattle.credit_math.specs.ProRata.{share, residue}
-use Rattle.credit_math.specs.Steps.{Allotting, before, rank, lot}
-use Rattle.credit_math.proofs.Shares.{share-le, shares-in, lot-le}
+use Rattle.credit_math.specs.ProRata.{share, remainder, shares, remainders, residue}
+use Rattle.credit_math.specs.Steps.{Sharing, Allotting, filled, before, rank, lot}
+use Rattle.credit_math.proofs.Turns.{empty-last}
+use Rattle.credit_math.proofs.Shares.{share-le, shares-in, remainders-add-up, residue-le, lot-le}
 
--- a share fits one word, which is then the lower word of the quotient
-pub share-word : (w : Wide) (p total sum : ℕ) {q : ℕ} → value w ≡ p / sum → p ≡ total * q → total ≤ sum → q < 2 ^ 64 → w.lo ≡ share total sum q
-unfolding share
-share-word w p total sum {q} e f h l =
-    let is : value w ≡ total * q / sum = e ∙ ap (λ (n : ℕ). n / sum) f in
-    word-low w (subst (λ (n : ℕ). n < 2 ^ 64) (sym is) (lt_of_le_of_lt (share-le total sum q h) l)) ∙ is
+-- a share of a total within the sum fits one word, which is then the lower word of the quotient
+pub share-word : (w : Wide) (total sum q : ℕ) → value w ≡ share total sum q → total ≤ sum → q < 2 ^ 64 → w.lo ≡ share total sum q
+share-word w total sum q e h l = word-low w (subst (λ (n : ℕ). n < 2 ^ 64) (sym e) (lt_of_le_of_lt (share-le total sum q h) l)) ∙ e
+
+-- the quotient and the rest of the division are the share and its remainder
+pub divided-share : (p total sum q : ℕ) (quotient rest : Wide) → p ≡ total * q → value quotient ≡ p / sum → value rest ≡ p % sum
+    → (value quotient ≡ share total sum q) × (value rest ≡ remainder total sum q)
+unfolding share remainder
+divided-share p total sum q quotient rest e f g = (f ∙ ap (λ (n : ℕ). n / sum) e, g ∙ ap (λ (n : ℕ). n % sum) e)
 
 -- what is left of the total after the shares of the first i places
 pub record Leaving (qtys : List ℕ) (total i left : ℕ) : Type 0 where
   pub is : left + sumBelow (λ k. share total (sumOf qtys) (get_or qtys k 0)) i ≡ total
 
-module _ {ids qtys : List ℕ} {total sum : ℕ} (a : Allotting ids qtys total sum) where
+module _ {qtys : List ℕ} {total sum : ℕ} (a : Sharing qtys total sum) where
   abbrev f : ℕ → ℕ
   f k = share total (sumOf qtys) (get_or qtys k 0)
 
   within-sum : total ≤ sumOf qtys
   within-sum = subst (λ (n : ℕ). total ≤ n) a.whole.is a.within
 
-  same-share : (q : ℕ) → share total sum q ≡ share total (sumOf qtys) q
-  same-share q = ap (λ (n : ℕ). share total n q) a.whole.is
+  -- the share of place i is the lower word of its quotient
+  pub low-share : (i : ℕ) (w : Wide) → value w ≡ share total sum (get_or qtys i 0) → get_or qtys i 0 < 2 ^ 64 → w.lo ≡ f i
+  low-share i w e l = share-word w total sum (get_or qtys i 0) e a.within l ∙ ap (λ (n : ℕ). share total n (get_or qtys i 0)) a.whole.is
 
   pub leaving : Leaving qtys total 0 total
   leaving = record { is = omega (arith, sum-none f) }
 
-  pub leaving-fits : {i left : ℕ} (x : ℕ) → Leaving qtys total i left → i < length qtys → x ≡ share total sum (get_or qtys i 0) → x ≤ left
-  leaving-fits {i} {left} x l h e =
-      omega (arith, l.is, shares-in ids qtys total within-sum, sum-mono f (i + 1) (length qtys) (add-one-le h), sum-more f i, e ∙ same-share (get_or qtys i 0))
+  pub leaving-fits : {i left : ℕ} (x : ℕ) → Leaving qtys total i left → i < length qtys → x ≡ f i → x ≤ left
+  leaving-fits {i} {left} x l h e = omega (arith, l.is, shares-in qtys total within-sum, sum-mono f (i + 1) (length qtys) (add-one-le h), sum-more f i, e)
 
-  pub leaving-more : {i left : ℕ} (x : ℕ) → Leaving qtys total i left → i < length qtys → x ≡ share total sum (get_or qtys i 0) → Leaving qtys total (i + 1) (left - x)
-  leaving-more {i} {left} x l h e = record { is = omega (arith, l.is, leaving-fits x l h e, sum-more f i, e ∙ same-share (get_or qtys i 0)) }
+  pub leaving-more : {i left : ℕ} (x : ℕ) → Leaving qtys total i left → i < length qtys → x ≡ f i → Leaving qtys total (i + 1) (left - x)
+  leaving-more {i} {left} x l h e = record { is = omega (arith, l.is, leaving-fits x l h e, sum-more f i, e) }
 
   pub left-over : {i left : ℕ} → Leaving qtys total i left → i ≤ length qtys → length qtys ≤ i → left ≡ residue qtys total
   unfolding residue
   left-over {i} {left} l h g = omega (arith, l.is, ap (λ (n : ℕ). sumBelow f n) (le_antisymm h g))
 
-  -- a lot, from its share, its rank and the residue
-  pub lot-is : (i s r left u : ℕ) → s ≡ share total sum (get_or qtys i 0) → r ≡ rank ids qtys i → left ≡ residue qtys total → u ≡ only (ltb r left) 1 → s + u ≡ lot ids qtys total i
+  -- and that, times the sum, is all that the rounding took
+  pub residue-took : {left : ℕ} → left ≡ residue qtys total → left * sum ≡ sumOf (remainders qtys total)
+  residue-took e = rw (e, a.whole.is) (remainders-add-up qtys total within-sum)
+
+  pub residue-few : {left : ℕ} → left ≡ residue qtys total → left ≤ filled qtys
+  residue-few e = rw e (residue-le qtys total within-sum)
+
+  pub shares-written : {i : ℕ} {out : List ℕ} → Writing f 0 (length qtys) i out → length qtys ≤ i → out ≡ shares qtys total
+  unfolding shares
+  shares-written w h = written w h
+
+-- the first i places hold their lots, the others still their shares
+pub record HandedOut (ids qtys : List ℕ) (total i : ℕ) (out : List ℕ) : Type 0 where
+  pub lots-in : Writing (lot ids qtys total) 0 (length qtys) i out
+  pub still : (k : ℕ) → i ≤ k → k < length qtys → get_or out k 0 ≡ share total (sumOf qtys) (get_or qtys k 0)
+
+module _ {ids qtys : List ℕ} {total sum : ℕ} (a : Allotting ids qtys total sum) where
+  shares-in-place : {out : List ℕ} → out ≡ shares qtys total → (length out ≡ length qtys) × ((k : ℕ) → k < length qtys → get_or out k 0 ≡ f a.sharing k)
+  unfolding shares
+  shares-in-place e = rw e (length-table (f a.sharing) (length qtys), λ k h. get_or-table (f a.sharing) (length qtys) k 0 h)
+
+  pub handed-none : {out : List ℕ} → out ≡ shares qtys total → HandedOut ids qtys total 0 out
+  handed-none e = let s = shares-in-place e in record { lots-in = writing s.0; still = λ k _ h. s.1 k h }
+
+  -- the lot of a place, from its share, its rank and the residue; and it fits
+  pub lot-is : (i : ℕ) {left : ℕ} {out : List ℕ} (u : ℕ) → HandedOut ids qtys total i out → i < length qtys → left ≡ residue qtys total → u ≡ only (ltb (rank ids qtys i) left) 1
+      → get_or out i 0 + u ≡ lot ids qtys total i
   unfolding lot
-  lot-is i s r left u e g h k =
-      omega (arith, e ∙ same-share (get_or qtys i 0), k ∙ ap (λ (x : ℕ). only (ltb x left) 1) g ∙ ap (λ (x : ℕ). only (ltb (rank ids qtys i) x) 1) h)
+  lot-is i u h l e k = omega (arith, h.still i (omega arith) l, k ∙ ap (λ (x : ℕ). only (ltb (rank ids qtys i) x) 1) e)
 
   pub lot-fits : (i : ℕ) → lot ids qtys total i ≤ get_or qtys i 0
-  lot-fits i = lot-le ids qtys total within-sum i
+  lot-fits i = lot-le qtys total (within-sum a.sharing) ids i
 
-  -- where no unit falls to it: a quantity of 0 has no lot, and with no residue the lot is the share
-  pub lot-empty : (i : ℕ) → get_or qtys i 0 ≡ 0 → 0 ≡ lot ids qtys total i
-  lot-empty i e = omega (arith, lot-fits i)
+  pub handed-more : (i v : ℕ) {out : List ℕ} → HandedOut ids qtys total i out → i < length qtys → v ≡ lot ids qtys total i → HandedOut ids qtys total (i + 1) (set out i v)
+  handed-more i v {out} h l e = record {
+    lots-in = writing-more v h.lots-in l e;
+    still = λ k g m. get_or-set_other out i k v 0 (ne_of_gt (omega arith)) ∙ h.still k (omega arith) m;
+  }
 
-  pub lot-share : (i s left : ℕ) → s ≡ share total sum (get_or qtys i 0) → left ≡ residue qtys total → left ≡ 0 → s ≡ lot ids qtys total i
-  unfolding lot
-  lot-share i s left e h z = rw (le-ltb (rank ids qtys i) (residue qtys total) (omega arith)) (omega (arith, e ∙ same-share (get_or qtys i 0)))
+  -- with no residue the lots are the shares
+  pub lots-are-shares : {left : ℕ} {out : List ℕ} → out ≡ shares qtys total → left ≡ residue qtys total → left ≡ 0 → out ≡ table (lot ids qtys total) (length qtys)
+  unfolding shares lot
+  lots-are-shares e g z =
+      e
+      ∙ table-same (f a.sharing) (lot ids qtys total) (length qtys) (λ i _. omega (arith, ap (λ (x : Bool). only x 1) (le-ltb (rank ids qtys i) (residue qtys total) (omega arith))))
 
 -- r of the first j places come before i
 pub record Ranking (ids qtys : List ℕ) (i j r : ℕ) : Type 0 where
@@ -92,3 +128,7 @@ module _ {ids qtys : List ℕ} {i : ℕ} where
   pub ranked : {j r : ℕ} → Ranking ids qtys i j r → j ≤ length qtys → length qtys ≤ j → r ≡ rank ids qtys i
   unfolding rank count
   ranked {j} {r} s h g = sum-end (λ k. only (before ids qtys k i) 1) j (length qtys) r s.is h g
+
+-- to a quantity of 0 no unit can fall
+pub no-unit : (ids qtys : List ℕ) (i left : ℕ) → get_or qtys i 0 ≡ 0 → left ≤ filled qtys → 0 ≡ only (ltb (rank ids qtys i) left) 1
+no-unit ids qtys i left e h = sym (ap (λ (b : Bool). only b 1) (le-ltb (rank ids qtys i) left (le_trans h (empty-last ids qtys i e))))

@@ -7,7 +7,7 @@ use Rattle.credit_math.specs.Error.{badLength, noCross}
 use Rattle.credit_math.specs.Rounding.{ceilDiv}
 use Rattle.credit_math.specs.Price.{buy, sell, executed, better, priceRefusal, findUniformClearPrice, Found, refused, failed, cross}
 use Rattle.credit_math.specs.SideTotals.{Table, sideTotals}
-use Rattle.credit_math.specs.ProRata.{share, residue, lots}
+use Rattle.credit_math.specs.ProRata.{share, remainder, shares, remainders, residue, lots}
 
 -- 'rounded up': of the numbers that, times b, come to a or more, the least
 pub record RoundsUp (a b : ℕ) : Type 0 where
@@ -84,6 +84,33 @@ module _ (isBuy : List Bool) (limits qtys : List ℕ) where
 
   abbrev pub TotalsFit : Type 0
   TotalsFit = length isBuy ≤ maxOrders → ((i : ℕ) → get_or qtys i 0 < 2 ^ 64) → WithinBits
+
+-- a share and its remainder, as document 02 has them
+pub record RightShare (total sum qty quotient rest : ℕ) : Type 0 where
+  -- 'total × quantity = quotient × sum + remainder'
+  pub exact : total * qty ≡ quotient * sum + rest
+  -- 'for a sum above 0, the remainder below it'
+  pub below : 0 < sum → rest < sum
+  -- 'Total 0 gives 0 and 0, also for sum 0'
+  pub none : total ≡ 0 → (quotient ≡ 0) × (rest ≡ 0)
+
+-- the share is right for every total, sum and quantity; and since 28 leaves no sum of 0 but with total 0, no other two numbers would be
+pub record ShareIsRight (total sum qty : ℕ) : Type 0 where
+  pub right : RightShare total sum qty (share total sum qty) (remainder total sum qty)
+  pub one-share : (sum ≡ 0 → total ≡ 0) → (quotient rest : ℕ) → RightShare total sum qty quotient rest
+      → (quotient ≡ share total sum qty) × (rest ≡ remainder total sum qty)
+
+-- what the rounding takes of all shares
+pub record RightRemainders (qtys : List ℕ) (total : ℕ) : Type 0 where
+  -- one remainder for each quantity, that of its share
+  pub length-is : length (remainders qtys total) ≡ length qtys
+  pub each : (i : ℕ) → i < length qtys
+      → RightShare total (sumOf qtys) (get_or qtys i 0) (get_or (shares qtys total) i 0) (get_or (remainders qtys total) i 0)
+  -- 'the residue times the sum equals all remainders added'
+  pub added : residue qtys total * sumOf qtys ≡ sumOf (remainders qtys total)
+
+abbrev pub RemaindersAreRight : (qtys : List ℕ) (total : ℕ) → Type 0
+RemaindersAreRight qtys total = total ≤ sumOf qtys → RightRemainders qtys total
 
 -- the lots of a total within the sum
 pub record RightLots (ids qtys : List ℕ) (total : ℕ) : Type 0 where

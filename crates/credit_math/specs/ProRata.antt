@@ -1,5 +1,5 @@
 -- `allocate_pro_rata`: a total shared out over quantities, each with an id.
-use Rattle.std.specs.Prelude.{Bool, cond, not, ◌&&◌, List, [], ◌∷◌, ℕ, zero, suc, ◌+◌, ◌-◌, ◌*◌, ◌/◌, ltb, leb, eqb, length, get_or, set}
+use Rattle.std.specs.Prelude.{Bool, cond, not, ◌&&◌, List, [], ◌∷◌, ℕ, zero, suc, ◌+◌, ◌-◌, ◌*◌, ◌/◌, ◌%◌, ltb, leb, eqb, length, get_or, set}
 use Rattle.laws.specs.Sums.{sumBelow, sumOf}
 use Rattle.laws.specs.Lists.{table}
 use Rattle.laws.specs.Sort.{sort}
@@ -12,9 +12,17 @@ use Rattle.credit_math.specs.Error.{invalidInput, overAllocation, badLength}
 unfoldable pub share : (total sum qty : ℕ) → ℕ
 share total sum qty = total * qty / sum
 
+-- 'its remainder': what rounding down takes of the share. By a sum of 0, as in `◌/◌` and `◌%◌`, the quotient is 0 and the remainder all that was to be divided
+unfoldable pub remainder : (total sum qty : ℕ) → ℕ
+remainder total sum qty = total * qty % sum
+
 -- each place's share
 unfoldable pub shares : (qtys : List ℕ) (total : ℕ) → List ℕ
 shares qtys total = table (λ i. share total (sumOf qtys) (get_or qtys i 0)) (length qtys)
+
+-- and its remainder
+unfoldable pub remainders : (qtys : List ℕ) (total : ℕ) → List ℕ
+remainders qtys total = table (λ i. remainder total (sumOf qtys) (get_or qtys i 0)) (length qtys)
 
 -- what the shares leave of the total
 unfoldable pub residue : (qtys : List ℕ) (total : ℕ) → ℕ

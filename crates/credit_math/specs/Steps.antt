@@ -1,6 +1,6 @@
 -- What the private functions keep on the way: forms that are cheap to compute. proofs/Price.antt, proofs/Search.antt and proofs/Sorted.antt show that they come to
 -- the definitions of Price.antt and ProRata.antt.
-use Rattle.std.specs.Prelude.{◌≡◌, Bool, true, cond, List, ℕ, ◌+◌, ◌≤◌, min, ltb, leb, length, get_or}
+use Rattle.std.specs.Prelude.{◌≡◌, Bool, true, cond, List, ℕ, ◌+◌, ◌<◌, ◌≤◌, min, ltb, leb, length, get_or}
 use Rattle.laws.specs.Sums.{only, count, sumOf}
 use Rattle.laws.specs.Lex.{lex}
 use Rattle.wide.specs.Value.{value, apart}
@@ -64,15 +64,29 @@ pub record Whole (qtys : List ℕ) (v : ℕ) : Type 0 where
   pub few : length qtys ≤ maxOrders
   pub is : v ≡ sumOf qtys
 
--- what an allotment goes by: lists of one length, their sum, and a total within it
-pub record Allotting (ids qtys : List ℕ) (total sum : ℕ) : Type 0 where
+-- what the shares go by: the sum of the quantities, and a total within it
+pub record Sharing (qtys : List ℕ) (total sum : ℕ) : Type 0 where
   pub whole : Whole qtys sum
-  pub ids-too : length ids ≡ length qtys
   pub within : total ≤ sum
+
+-- what an allotment goes by: the same, and an id for each quantity
+pub record Allotting (ids qtys : List ℕ) (total sum : ℕ) : Type 0 where
+  pub sharing : Sharing qtys total sum
+  pub ids-too : length ids ≡ length qtys
+
+-- how many quantities are not 0
+abbrev pub filled : (qtys : List ℕ) → ℕ
+filled qtys = count (λ i. ltb 0 (get_or qtys i 0)) (length qtys)
 
 -- place j comes before place i: the larger quantity, then the lower id, then the earlier place
 unfoldable pub before : (ids qtys : List ℕ) (j i : ℕ) → Bool
 before ids qtys j i = lex (get_or qtys i 0) (get_or qtys j 0) (lex (get_or ids j 0) (get_or ids i 0) (ltb j i))
+
+-- what a rank goes by: an id for each of at most maxOrders quantities, and one of their places
+pub record Ranked (ids qtys : List ℕ) (i : ℕ) : Type 0 where
+  pub few : length qtys ≤ maxOrders
+  pub ids-too : length ids ≡ length qtys
+  pub here : i < length qtys
 
 -- how many places come before i
 unfoldable pub rank : (ids qtys : List ℕ) (i : ℕ) → ℕ

@@ -1,13 +1,13 @@
 // Uniform-price clearing and pro-rata lots, on parallel slices of 64-bit numbers.
-ghost use Rattle.std.specs.Prelude.{◌≡◌, false, ◌+◌, ◌-◌, ◌/◌, ◌<◌, ◌≤◌, length, ltb};
-ghost use Rattle.laws.specs.Sums.{only};
+ghost use Rattle.std.specs.Prelude.{◌≡◌, false, ◌+◌, ◌-◌, ◌*◌, ◌/◌, ◌<◌, ◌≤◌, length, ltb, eqb};
+ghost use Rattle.laws.specs.Sums.{only, sumOf};
 ghost use Rattle.laws.specs.Lists.{table};
 ghost use Rattle.laws.specs.Lex.{lex};
 ghost use Rattle.wide.specs.Value.{value, apart};
 ghost use Rattle.credit_math.specs.Limits.{maxOrders};
 ghost use Rattle.credit_math.specs.Price.{found, findUniformClearPrice};
-ghost use Rattle.credit_math.specs.ProRata.{share, residue, proRataRefusal, allocateProRata};
-ghost use Rattle.credit_math.specs.Steps.{QuoteOf, ahead, keeping, after, Searched, Whole, Allotting, before, rank, lot};
+ghost use Rattle.credit_math.specs.ProRata.{share, remainder, shares, remainders, residue, proRataRefusal, allocateProRata};
+ghost use Rattle.credit_math.specs.Steps.{QuoteOf, ahead, keeping, after, Searched, Whole, Sharing, Allotting, Ranked, filled, rank, lot};
 
 use crate::side_totals::{SideTotals, price_refusal, running_sums};
 use wide::Wide;
@@ -221,66 +221,97 @@ fn sum_of(qtys: &[u64]) -> Wide
     sum
 }
 
-// Writes the lots: by rank, so that nothing is sorted.
+// Writes the lots: the shares, and the residue handed out by rank, so that nothing is sorted.
 fn write_lots(total: u64, sum_qty: Wide, ids: &[u64], qtys: &[u64], out: &mut [u64])
     requires { Allotting ids.now qtys.now total (value sum_qty) × (length out.old ≡ length qtys.now) }
     ensures { out.new ≡ table (lot ids.now qtys.now total) (length qtys.now) }
 {
-    let left = residue_of(total, sum_qty, ids, qtys);
+    let left = write_shares(total, sum_qty, qtys, out);
+    if left == 0 {
+        return;
+    }
     let mut i = 0;
     while i < qtys.len() {
-        out[i] = lot_of(total, sum_qty, left, ids, qtys, i);
+        out[i] += unit_of(left, ids, qtys, i);
         i += 1;
     }
 }
 
-// What the shares leave of the total.
-fn residue_of(total: u64, sum_qty: Wide, ids: &[u64], qtys: &[u64]) -> u64
-    requires { Allotting ids.now qtys.now total (value sum_qty) }
-    ensures { result ≡ residue qtys.now total }
+// Writes the shares, and answers what they leave of the total: that, times the sum, is all that the rounding took.
+fn write_shares(total: u64, sum_qty: Wide, qtys: &[u64], out: &mut [u64]) -> u64
+    requires { Sharing qtys.now total (value sum_qty) × (length out.old ≡ length qtys.now) }
+    ensures { (out.new ≡ shares qtys.now total) × (result ≡ residue qtys.now total)
+        × (result * value sum_qty ≡ sumOf (remainders qtys.now total)) }
 {
     let mut left = total;
     let mut i = 0;
     while i < qtys.len() {
-        left -= floor_share(total, qtys[i], sum_qty);
+        let share = floor_share(total, qtys[i], sum_qty).quotient.lo;
+        out[i] = share;
+        left -= share;
         i += 1;
     }
     left
 }
 
-// The share of a quantity, rounded down. Where the total is the whole sum, it is the quantity.
-fn floor_share(total: u64, qty: u64, sum_qty: Wide) -> u64
-    requires { total ≤ value sum_qty }
-    ensures { result ≡ share total (value sum_qty) qty }
-{
-    if total == 0 {
-        return 0;
-    }
-    if qty == 0 {
-        return 0;
-    }
-    if wide::less(wide::of_word(total), sum_qty) {
-        let part = crate::div_round(wide::product(total, qty), sum_qty);
-        return part.quotient.lo;
-    }
-    qty
+// A share, and what the rounding took of it.
+#[derive(Clone, Copy, Drop)]
+pub struct Share {
+    pub quotient: Wide,
+    pub remainder: Wide,
 }
 
-// The lot of place i: its share, and a unit of the residue where its turn comes. No rank is worked out where no unit can fall to it.
-fn lot_of(total: u64, sum_qty: Wide, left: u64, ids: &[u64], qtys: &[u64], i: usize) -> u64
-    requires { Allotting ids.now qtys.now total (value sum_qty) × (left ≡ residue qtys.now total) × (i < length qtys.now) }
-    ensures { result ≡ lot ids.now qtys.now total i }
+// The share of a quantity, rounded down, with its remainder. Pro-rata alone goes by it, with a total within the sum; it is public for the comparison.
+pub fn floor_share(total: u64, qty: u64, sum_qty: Wide) -> Share
+    ensures { (value result.quotient ≡ share total (value sum_qty) qty)
+        × (value result.remainder ≡ remainder total (value sum_qty) qty) }
 {
-    let qty = qtys[i];
+    if total == 0 {
+        return exact_share(0);
+    }
+    // Nothing to divide: a quantity of 0 takes 0, and of the whole sum each takes its quantity.
     if qty == 0 {
+        return exact_share(qty);
+    }
+    if is_whole(total, sum_qty) {
+        return exact_share(qty);
+    }
+    let part = crate::div_round(wide::product(total, qty), sum_qty);
+    Share {
+        quotient: part.quotient,
+        remainder: part.rest,
+    }
+}
+
+// A share that the rounding takes nothing of.
+fn exact_share(quotient: u64) -> Share
+    ensures { (value result.quotient ≡ quotient) × (value result.remainder ≡ 0) }
+{
+    Share {
+        quotient: wide::of_word(quotient),
+        remainder: wide::of_word(0),
+    }
+}
+
+// Whether the total is all of the sum.
+fn is_whole(total: u64, sum_qty: Wide) -> bool
+    ensures { result ≡ eqb (value sum_qty) total }
+{
+    if wide::fits_word(sum_qty) {
+        return sum_qty.lo == total;
+    }
+    false
+}
+
+// The unit of place i, where its turn comes while some are left. To a quantity of 0 none can fall, and no rank is worked out.
+fn unit_of(left: u64, ids: &[u64], qtys: &[u64], i: usize) -> u64
+    requires { Ranked ids.now qtys.now i × (left ≤ filled qtys.now) }
+    ensures { result ≡ only (ltb (rank ids.now qtys.now i) left) 1 }
+{
+    if qtys[i] == 0 {
         return 0;
     }
-    let share = floor_share(total, qty, sum_qty);
-    if left == 0 {
-        return share;
-    }
-    let turn = rank_of(ids, qtys, i);
-    share + unit(turn < left)
+    unit(rank_of(ids, qtys, i) < left)
 }
 
 // One unit, or none.
@@ -292,7 +323,7 @@ pub fn unit(given: bool) -> u64
 
 // How many places come before i.
 fn rank_of(ids: &[u64], qtys: &[u64], i: usize) -> u64
-    requires { (length qtys.now ≤ maxOrders) × (length ids.now ≡ length qtys.now) × (i < length qtys.now) }
+    requires { Ranked ids.now qtys.now i }
     ensures { result ≡ rank ids.now qtys.now i }
 {
     let mut rank = 0;

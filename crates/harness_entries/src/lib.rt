@@ -1,4 +1,4 @@
-// Entries for the comparison with the source alone: the functions on parallel slices and the test of one row, behind the C boundary.
+// Entries for the comparison with the source alone: the functions on parallel slices, one share and the test of one row, behind the C boundary.
 #![tactic(auto)]
 
 ghost use Rattle.std.specs.Prelude.{◌≡◌, length};
@@ -7,9 +7,9 @@ ghost use Rattle.escrow.specs.Cover.{coverRefusal};
 ghost use Rattle.escrow.specs.declared.Cover.TheVariants.{Decimals};
 ghost use Rattle.credit_math.specs.Price.{priceRefusal, findUniformClearPrice};
 ghost use Rattle.credit_math.specs.SideTotals.{sideTotals};
-ghost use Rattle.credit_math.specs.ProRata.{proRataRefusal, allocateProRata};
+ghost use Rattle.credit_math.specs.ProRata.{share, remainder, proRataRefusal, allocateProRata};
 ghost use Rattle.order_slices.specs.Figures.{figuresOf};
-ghost use Rattle.wide.specs.Value.{value};
+ghost use Rattle.wide.specs.Value.{value, digits};
 ghost use Rattle.harness_entries.specs.Rows.{RowOf, RowSays};
 
 use book::Row;
@@ -44,6 +44,34 @@ pub extern "C" fn entry_allocate_pro_rata(
         × (out.new ≡ allocateProRata ids.now qtys.now total out.old) }
 {
     credit_math::allocation::allocate_pro_rata(total, ids, qtys, out)
+}
+
+// A share and its remainder, each in two words.
+#[repr(C)]
+#[derive(Clone, Copy, Drop)]
+pub struct ShareWords {
+    pub quotient_hi: u64,
+    pub quotient_lo: u64,
+    pub remainder_hi: u64,
+    pub remainder_lo: u64,
+}
+
+#[unsafe(no_mangle)]
+pub extern "C" fn entry_floor_share(total: u64, qty: u64, sum_hi: u64, sum_lo: u64) -> ShareWords
+    ensures { (digits 64 result.quotient_hi result.quotient_lo ≡ share total (digits 64 sum_hi sum_lo) qty)
+        × (digits 64 result.remainder_hi result.remainder_lo ≡ remainder total (digits 64 sum_hi sum_lo) qty) }
+{
+    let sum_qty = Wide {
+        hi: sum_hi,
+        lo: sum_lo,
+    };
+    let part = credit_math::allocation::floor_share(total, qty, sum_qty);
+    ShareWords {
+        quotient_hi: part.quotient.hi,
+        quotient_lo: part.quotient.lo,
+        remainder_hi: part.remainder.hi,
+        remainder_lo: part.remainder.lo,
+    }
 }
 
 // A row of the table of side totals, with the refusal and the number of rows: past the last row zeros.
