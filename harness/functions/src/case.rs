@@ -43,7 +43,7 @@ fn price(r: &mut Random, n: usize) -> Case {
 }
 
 /// Totals at the sum, beside it and below it.
-fn pro_rata(r: &mut Random, n: usize) -> Case {
+pub fn pro_rata(r: &mut Random, n: usize) -> Case {
     let qtys = numbers(r, n);
     let sum: u128 = qtys.iter().map(|&q| u128::from(q)).sum();
     let total = match r.below(6) {

@@ -1,11 +1,13 @@
 //! `functions [--seed S] [--cases N]`: the price search and pro-rata through the published source and through ours, on parallel slices
-//! and on records, one answer after the other; and as many tests of an order's cover, tables of side totals, and numbers of fills. Then a
-//! third as many sessions that the source cleared: its cranks must make the number of fills that ours gave.
+//! and on records, one answer after the other; and as many tests of an order's cover, tables of side totals, shares with their
+//! remainders, and numbers of fills. Then a third as many sessions that the source cleared: its cranks must make the number of fills
+//! that ours gave.
 mod case;
 mod cover;
 mod cranks;
 mod fills;
 mod records;
+mod shares;
 mod slices;
 mod table;
 mod words;
@@ -31,12 +33,14 @@ fn main() -> ExitCode {
     println!("{tests} tests of cover, {wrong} different");
     let [tables, turned_away, bad] = table::compare(&mut Random(seed), count);
     println!("{tables} tables, {turned_away} of them refused, {bad} different");
+    let [shares, lists, uneven] = shares::compare(&mut Random(seed), count);
+    println!("{shares} shares with their remainders, {lists} lists of them, {uneven} different");
     let [books, no_figure, tied, miscounted] = fills::compare(&mut Random(seed), count);
     println!("{books} numbers of fills, {no_figure} of them refused, {tied} of lots that end together, {miscounted} different");
     let sessions = count / 3;
     let unlike = cranks::compare(&mut Random(seed), sessions);
     println!("{sessions} cleared sessions, {unlike} different");
-    ExitCode::from(u8::from(different + wrong + bad + miscounted + unlike != 0 || !refused))
+    ExitCode::from(u8::from(different + wrong + bad + uneven + miscounted + unlike != 0 || !refused))
 }
 
 /// Shows how often each kind of answer was seen and the first differences.
