@@ -1,7 +1,8 @@
 -- What the loops of pro-rata keep: the total less the shares so far, the places so far that come before one, and the lot that comes of both.
 -- Assumes nothing.
 use mathlib.Core.Path.{◌≡◌, refl, sym, ◌∙◌, ap, subst}
-use mathlib.Core.Bool.{Bool}
+use mathlib.Core.Bool.{Bool, true, false, ◌&&◌}
+use mathlib.Core.Logic.{⊎_elim}
 use mathlib.Core.List.{List}
 use Prim.Native.Nat.{ℕ, ◌+◌, ◌-◌, ◌*◌, ◌/◌, ◌%◌, ◌^◌, ◌<◌, ◌≤◌, zero-le}
 use native.Mathlib.Nat.{le_antisymm, le_trans, lt_of_le_of_lt, ne_of_gt}
@@ -10,19 +11,20 @@ use native.Mathlib.Omega.{arith}
 use lib.Dec.{ltb}
 use lib.ListN.{length, get_or, set}
 use Rattle.std.proofs.Common.{get_or-set_other}
-use borrow.Author.Tests.{le-ltb}
+use borrow.Author.Tests.{lt-ltb, le-ltb, ltb-true, ltb-false}
 use Rattle.laws.specs.Sums.{sumBelow, only, count, sumOf}
 use Rattle.laws.specs.Lex.{lex}
 use Rattle.laws.specs.Lists.{table}
-use Rattle.laws.proofs.Lists.{length-table, get_or-table, table-same, Writing, writing, writing-more, written}
+use Rattle.laws.proofs.Lists.{length-table, get_or-table, is-table, Writing, writing, writing-more, written}
 use Rattle.laws.proofs.Sums.{sum-none, sum-more, sum-mono, sum-step, sum-end, only-one}
+use Rattle.laws.proofs.Tests.{both, lt-or-le}
 use Rattle.wide.specs.Value.{value}
 use Rattle.wide.specs.declared.Wide.{Wide}
 use Rattle.wide.proofs.Words.{word-low}
 use Rattle.credit_math.specs.ProRata.{share, remainder, shares, remainders, residue}
 use Rattle.credit_math.specs.Steps.{Sharing, Allotting, filled, before, rank, lot}
 use Rattle.credit_math.proofs.Turns.{empty-last}
-use Rattle.credit_math.proofs.Shares.{share-le, shares-in, remainders-add-up, residue-le, lot-le}
+use Rattle.credit_math.proofs.Shares.{share-le, shares-in, remainders-add-up, residue-le, units, lot-le}
 
 -- a share of a total within the sum fits one word, which is then the lower word of the quotient
 pub share-word : (w : Wide) (total sum q : ℕ) → value w ≡ share total sum q → total ≤ sum → q < 2 ^ 64 → w.lo ≡ share total sum q
@@ -73,40 +75,73 @@ module _ {qtys : List ℕ} {total sum : ℕ} (a : Sharing qtys total sum) where
   unfolding shares
   shares-written w h = written w h
 
--- the first i places hold their lots, the others still their shares
-pub record HandedOut (ids qtys : List ℕ) (total i : ℕ) (out : List ℕ) : Type 0 where
+-- a turn of the loop that hands the units out: a place is left, and a unit
+pub turn-left : (i n given left : ℕ) (t : Bool) → t ≡ (ltb i n && ltb given left) → t ≡ true → (i < n) × (given < left)
+turn-left i n given left t e h = let b = both (ltb i n) (ltb given left) (sym e ∙ h) in (ltb-true i n b.0, ltb-true given left b.1)
+
+-- one unit for a place whose turn comes within the residue
+abbrev unitOf : (ids qtys : List ℕ) (total i : ℕ) → ℕ
+unitOf ids qtys total i = only (ltb (rank ids qtys i) (residue qtys total)) 1
+
+-- the first i places hold their lots, the others still their shares, and so many units are given
+pub record HandedOut (ids qtys : List ℕ) (total i given : ℕ) (out : List ℕ) : Type 0 where
   pub lots-in : Writing (lot ids qtys total) 0 (length qtys) i out
   pub still : (k : ℕ) → i ≤ k → k < length qtys → get_or out k 0 ≡ share total (sumOf qtys) (get_or qtys k 0)
+  pub given-is : given ≡ sumBelow (unitOf ids qtys total) i
 
 module _ {ids qtys : List ℕ} {total sum : ℕ} (a : Allotting ids qtys total sum) where
   shares-in-place : {out : List ℕ} → out ≡ shares qtys total → (length out ≡ length qtys) × ((k : ℕ) → k < length qtys → get_or out k 0 ≡ f a.sharing k)
   unfolding shares
   shares-in-place e = rw e (length-table (f a.sharing) (length qtys), λ k h. get_or-table (f a.sharing) (length qtys) k 0 h)
 
-  pub handed-none : {out : List ℕ} → out ≡ shares qtys total → HandedOut ids qtys total 0 out
-  handed-none e = let s = shares-in-place e in record { lots-in = writing s.0; still = λ k _ h. s.1 k h }
+  pub handed-none : {out : List ℕ} → out ≡ shares qtys total → HandedOut ids qtys total 0 0 out
+  handed-none e =
+      let s = shares-in-place e in record { lots-in = writing s.0; still = λ k _ h. s.1 k h; given-is = sym (sum-none (unitOf ids qtys total)) }
 
-  -- the lot of a place, from its share, its rank and the residue; and it fits
-  pub lot-is : (i : ℕ) {left : ℕ} {out : List ℕ} (u : ℕ) → HandedOut ids qtys total i out → i < length qtys → left ≡ residue qtys total → u ≡ only (ltb (rank ids qtys i) left) 1
-      → get_or out i 0 + u ≡ lot ids qtys total i
+  pub unit-is : (i u : ℕ) {left : ℕ} → left ≡ residue qtys total → u ≡ only (ltb (rank ids qtys i) left) 1 → u ≡ unitOf ids qtys total i
+  unit-is i u e k = k ∙ ap (λ (x : ℕ). only (ltb (rank ids qtys i) x) 1) e
+
+  -- the lot of a place is its share and the unit; and it fits
+  pub lot-is : (i u : ℕ) {given : ℕ} {out : List ℕ} → HandedOut ids qtys total i given out → i < length qtys → u ≡ unitOf ids qtys total i → get_or out i 0 + u ≡ lot ids qtys total i
   unfolding lot
-  lot-is i u h l e k = omega (arith, h.still i (omega arith) l, k ∙ ap (λ (x : ℕ). only (ltb (rank ids qtys i) x) 1) e)
+  lot-is i u h l e = omega (arith, h.still i (omega arith) l, e)
 
   pub lot-fits : (i : ℕ) → lot ids qtys total i ≤ get_or qtys i 0
   lot-fits i = lot-le qtys total (within-sum a.sharing) ids i
 
-  pub handed-more : (i v : ℕ) {out : List ℕ} → HandedOut ids qtys total i out → i < length qtys → v ≡ lot ids qtys total i → HandedOut ids qtys total (i + 1) (set out i v)
-  handed-more i v {out} h l e = record {
-    lots-in = writing-more v h.lots-in l e;
-    still = λ k g m. get_or-set_other out i k v 0 (ne_of_gt (omega arith)) ∙ h.still k (omega arith) m;
+  pub handed-more : (i u : ℕ) {given : ℕ} {out : List ℕ} → HandedOut ids qtys total i given out → i < length qtys → u ≡ unitOf ids qtys total i
+      → HandedOut ids qtys total (i + 1) (given + u) (set out i (get_or out i 0 + u))
+  handed-more i u {given} {out} h l e = record {
+    lots-in = writing-more (get_or out i 0 + u) h.lots-in l (lot-is i u h l e);
+    still = λ k g m. get_or-set_other out i k (get_or out i 0 + u) 0 (ne_of_gt (omega arith)) ∙ h.still k (omega arith) m;
+    given-is = omega (arith, h.given-is, e, sum-more (unitOf ids qtys total) i);
   }
 
-  -- with no residue the lots are the shares
-  pub lots-are-shares : {left : ℕ} {out : List ℕ} → out ≡ shares qtys total → left ≡ residue qtys total → left ≡ 0 → out ≡ table (lot ids qtys total) (length qtys)
-  unfolding shares lot
-  lots-are-shares e g z =
-      e
-      ∙ table-same (f a.sharing) (lot ids qtys total) (length qtys) (λ i _. omega (arith, ap (λ (x : Bool). only x 1) (le-ltb (rank ids qtys i) (residue qtys total) (omega arith))))
+  -- when as many units as the residue are given, none is left for the other places
+  none-left-for : (i k : ℕ) {given : ℕ} {out : List ℕ} → HandedOut ids qtys total i given out → residue qtys total ≤ given → i ≤ k → k < length qtys → unitOf ids qtys total k ≡ 0
+  none-left-for i k h e l m =
+      let u = unitOf ids qtys total in
+      omega (
+        arith,
+        h.given-is,
+        sum-mono u i k l,
+        sum-more u k,
+        sum-mono u (k + 1) (length qtys) (add-one-le m),
+        units qtys total (within-sum a.sharing) ids,
+      )
+
+  -- the loop ends where all places are passed, or all units given
+  pub handed-all : {i given left : ℕ} {out : List ℕ} (t : Bool) → HandedOut ids qtys total i given out → left ≡ residue qtys total → t ≡ (ltb i (length qtys) && ltb given left)
+      → t ≡ false → out ≡ table (lot ids qtys total) (length qtys)
+  unfolding lot
+  handed-all {i} {given} {left} {out} t h e g z =
+      is-table (lot ids qtys total) (length qtys) 0 out h.lots-in.whole
+      (λ k m. ⊎_elim (λ (l : k < i). h.lots-in.done k l)
+      (λ (l : i ≤ k).
+      let here : ltb i (length qtys) ≡ true = lt-ltb i (length qtys) (lt_of_le_of_lt l m) in
+      let all-given : left ≤ given = ltb-false given left (ap (λ (b : Bool). b && ltb given left) (sym here) ∙ sym g ∙ z) in
+      omega (arith, h.still k l m, none-left-for i k h (omega (arith, e, all-given)) l m))
+      (lt-or-le k i))
 
 -- r of the first j places come before i
 pub record Ranking (ids qtys : List ℕ) (i j r : ℕ) : Type 0 where

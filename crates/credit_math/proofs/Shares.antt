@@ -166,7 +166,7 @@ module _ (qtys : List ℕ) where
 
     module _ (ids : List ℕ) where
       -- as many units as the residue
-      units : sumBelow (λ i. only (ltb (rank ids qtys i) (residue qtys total)) 1) n ≡ min (residue qtys total) n
+      pub units : sumBelow (λ i. only (ltb (rank ids qtys i) (residue qtys total)) 1) n ≡ min (residue qtys total) n
       unfolding count rank
       units = picked-all (before ids qtys) (before-irrefl ids qtys) (before-trans ids qtys) (before-total ids qtys) n (residue qtys total)
 

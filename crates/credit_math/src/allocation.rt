@@ -10,6 +10,7 @@ ghost use Rattle.credit_math.specs.ProRata.{share, remainder, shares, remainders
 ghost use Rattle.credit_math.specs.Steps.{QuoteOf, ahead, keeping, after, Searched, Whole, Sharing, Allotting, Ranked, filled, rank, lot};
 
 use crate::side_totals::{SideTotals, price_refusal, running_sums};
+use laws::checks::both;
 use wide::Wide;
 
 // A successful cross at a single price.
@@ -227,12 +228,13 @@ fn write_lots(total: u64, sum_qty: Wide, ids: &[u64], qtys: &[u64], out: &mut [u
     ensures { out.new ≡ table (lot ids.now qtys.now total) (length qtys.now) }
 {
     let left = write_shares(total, sum_qty, qtys, out);
-    if left == 0 {
-        return;
-    }
+    let mut given = 0;
     let mut i = 0;
-    while i < qtys.len() {
-        out[i] += unit_of(left, ids, qtys, i);
+    // No rank is worked out when all units are given.
+    while both(i < qtys.len(), given < left) {
+        let unit = unit_of(left, ids, qtys, i);
+        out[i] += unit;
+        given += unit;
         i += 1;
     }
 }

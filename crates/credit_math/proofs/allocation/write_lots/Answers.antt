@@ -1,33 +1,32 @@
--- `credit_math::allocation::write_lots` meets its contract. The loop's invariant: the places passed hold their lots, the others still their shares. The measure is what is left
--- of the places.
+-- `credit_math::allocation::write_lots` meets its contract. The loop's invariant: the places passed hold their lots, the others still their shares, and the units given are
+-- those of the places passed. The measure is what is left of the places.
 use native.Mathlib.Omega.{arith}
+use lib.ListN.{length}
 use borrow.Author.Rules.{rules}
-use Rattle.laws.proofs.Lists.{written}
-use Rattle.credit_math.proofs.Allotting.{residue-few, handed-none, handed-more, lot-is, lot-fits, lots-are-shares}
+use Rattle.credit_math.proofs.Allotting.{residue-few, handed-none, handed-more, handed-all, turn-left, unit-is, lot-is, lot-fits}
 use Rattle.credit_math.proofs.allocation.write_lots.Goals as goal
 
-pub returns-then-left-eq0 : goal.returns-then-left-eq0
-returns-then-left-eq0 c =
-    let made = c.write_shares-left.ensures in
-    lots-are-shares c.requires.0 made.0 made.1 c.if-left-eq0.true
+pub loop-unit-init : goal.loop-unit-init
+loop-unit-init c = (search rules, handed-none c.requires.0 c.write_shares-left.ensures.0)
 
-pub loop-i-init : goal.loop-i-init
-loop-i-init c = (search rules, handed-none c.requires.0 c.write_shares-left.ensures.0)
-
-pub unit_of-requires : goal.unit_of-requires
-unit_of-requires c =
+pub unit_of-unit-requires : goal.unit_of-unit-requires
+unit_of-unit-requires c =
     let ask = c.requires.0 in
-    (record { few = ask.sharing.whole.few; ids-too = ask.ids-too; here = c.loop-i-test.true }, residue-few ask.sharing c.write_shares-left.ensures.1)
+    let turn = turn-left _ _ _ _ _ c.both.ensures c.loop-unit-test.true in
+    (record { few = ask.sharing.whole.few; ids-too = ask.ids-too; here = turn.0 }, residue-few ask.sharing c.write_shares-left.ensures.1)
 
 pub overflow_add-out : goal.overflow_add-out
 overflow_add-out c =
-    let lot = lot-is c.requires.0 c.loop-i.i _ c.loop-i.invariant.1 c.loop-i-test.true c.write_shares-left.ensures.1 c.unit_of.ensures in
-    omega (arith, lot, lot-fits c.requires.0 c.loop-i.i, c.type_inv.qtys c.loop-i.i)
+    let i = c.loop-unit.i in
+    let unit = unit-is c.requires.0 i _ c.write_shares-left.ensures.1 c.unit_of-unit.ensures in
+    let turn = turn-left i (length c.args.qtys.now) _ _ _ c.both.ensures c.loop-unit-test.true in
+    omega (arith, lot-is c.requires.0 i _ c.loop-unit.invariant.1 turn.0 unit, lot-fits c.requires.0 i, c.type_inv.qtys i)
 
-pub loop-i-preserved : goal.loop-i-preserved
-loop-i-preserved c =
-    let lot = lot-is c.requires.0 c.loop-i.i _ c.loop-i.invariant.1 c.loop-i-test.true c.write_shares-left.ensures.1 c.unit_of.ensures in
-    (omega arith, handed-more c.requires.0 _ _ c.loop-i.invariant.1 c.loop-i-test.true lot)
+pub loop-unit-preserved : goal.loop-unit-preserved
+loop-unit-preserved c =
+    let turn = turn-left _ _ _ _ _ c.both.ensures c.loop-unit-test.true in
+    let unit = unit-is c.requires.0 _ _ c.write_shares-left.ensures.1 c.unit_of-unit.ensures in
+    (omega (arith, turn.0), handed-more c.requires.0 _ _ c.loop-unit.invariant.1 turn.0 unit)
 
 pub returns : goal.returns
-returns c = written c.loop-i.invariant.1.lots-in c.loop-i-test.false
+returns c = handed-all c.requires.0 _ c.loop-unit.invariant.1 c.write_shares-left.ensures.1 c.both.ensures c.loop-unit-test.false
