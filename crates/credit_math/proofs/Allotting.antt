@@ -55,7 +55,7 @@ module _ {qtys : List ℕ} {total sum : ℕ} (a : Sharing qtys total sum) where
   leaving = record { is = omega (arith, sum-none f) }
 
   pub leaving-fits : {i left : ℕ} (x : ℕ) → Leaving qtys total i left → i < length qtys → x ≡ f i → x ≤ left
-  leaving-fits {i} {left} x l h e = omega (arith, l.is, shares-in qtys total within-sum, sum-mono f (i + 1) (length qtys) (add-one-le h), sum-more f i, e)
+  leaving-fits {i} {left} x l h e = omega (arith, l.is, shares-in qtys total, sum-mono f (i + 1) (length qtys) (add-one-le h), sum-more f i, e)
 
   pub leaving-more : {i left : ℕ} (x : ℕ) → Leaving qtys total i left → i < length qtys → x ≡ f i → Leaving qtys total (i + 1) (left - x)
   leaving-more {i} {left} x l h e = record { is = omega (arith, l.is, leaving-fits x l h e, sum-more f i, e) }
@@ -66,7 +66,7 @@ module _ {qtys : List ℕ} {total sum : ℕ} (a : Sharing qtys total sum) where
 
   -- and that, times the sum, is all that the rounding took
   pub residue-took : {left : ℕ} → left ≡ residue qtys total → left * sum ≡ sumOf (remainders qtys total)
-  residue-took e = rw (e, a.whole.is) (remainders-add-up qtys total within-sum)
+  residue-took e = rw (e, a.whole.is) (remainders-add-up qtys total)
 
   pub residue-few : {left : ℕ} → left ≡ residue qtys total → left ≤ filled qtys
   residue-few e = rw e (residue-le qtys total within-sum)

@@ -14,7 +14,7 @@ use Rattle.laws.proofs.Sums.{only-one}
 use Rattle.laws.proofs.Lists.{length-table, get_or-table, sum-table}
 use Rattle.credit_math.specs.ProRata.{share, remainder, shares, remainders, residue, lots}
 use Rattle.credit_math.specs.Steps.{rank, lot}
-use Rattle.credit_math.specs.Claims.{RightShare, ShareIsRight, RemaindersAreRight, LotsAreRight}
+use Rattle.credit_math.specs.Claims.{RightShare, ShareIsRight, RightRemainders, LotsAreRight}
 use Rattle.credit_math.proofs.Sorted.{length-lots, lots-at, lots-table}
 use Rattle.credit_math.proofs.Shares.{share-of-none, share-exact, remainder-below, remainder-of-none, remainders-add-up, residue-lt, lots-sum, lot-le}
 
@@ -44,15 +44,15 @@ share-is-right total sum q = record {
       (eq-zero-or-pos sum);
 }
 
-pub remainders-are-right : (qtys : List ℕ) (total : ℕ) → RemaindersAreRight qtys total
+pub remainders-are-right : (qtys : List ℕ) (total : ℕ) → RightRemainders qtys total
 unfolding shares remainders
-remainders-are-right qtys total fits =
+remainders-are-right qtys total =
     let s : ℕ → ℕ = λ i. share total (sumOf qtys) (get_or qtys i 0) in
     let r : ℕ → ℕ = λ i. remainder total (sumOf qtys) (get_or qtys i 0) in
     record {
       length-is = length-table r (length qtys);
       each = λ i h. rw (get_or-table s (length qtys) i 0 h) (rw (get_or-table r (length qtys) i 0 h) (share-right total (sumOf qtys) (get_or qtys i 0)));
-      added = remainders-add-up qtys total fits;
+      added = remainders-add-up qtys total;
     }
 
 lot-low : (ids qtys : List ℕ) (total i : ℕ) → share total (sumOf qtys) (get_or qtys i 0) ≤ lot ids qtys total i
@@ -68,7 +68,7 @@ lots-are-right ids qtys total fits = record {
   length-is = length-lots ids qtys total;
   low = λ i h. omega (arith, lots-at ids qtys total i h, lot-low ids qtys total i);
   high = λ i h. omega (arith, lots-at ids qtys total i h, lot-high ids qtys total i);
-  residue-small = residue-lt qtys total fits;
+  residue-small = residue-lt qtys total;
   adds-up = ap sumOf (lots-table ids qtys total) ∙ sum-table (lot ids qtys total) (length qtys) ∙ lots-sum qtys total fits ids;
   within =
       λ i. ⊎_elim (λ (h : i < length qtys). omega (arith, lots-at ids qtys total i h, lot-le qtys total fits ids i))

@@ -5,7 +5,7 @@ use mathlib.Core.Logic.{◌≢◌, ⊎_elim}
 use mathlib.Core.Bool.{true, false}
 use mathlib.Core.List.{List}
 use Prim.Native.Nat.{ℕ, zero, suc, ◌+◌, ◌*◌, ◌/◌, ◌%◌, ◌<◌, ◌≤◌, min}
-use native.Mathlib.Nat.{add-mul, mul-add, mul-zero, mul_comm, zero-mul, zero-div, eq-zero-or-pos, le_of_mul-le-mul_right, lt_of_mul-lt-mul_right, mul-le-mul_right, mul-lt-mul_of_pos_right, mul-div_cancel_left, div-mul-le_self, div-add-mod', mod-lt, zero-mod, mul-mod_right, eq-or-lt_of_le}
+use native.Mathlib.Nat.{add-mul, mul-add, mul-zero, mul_comm, zero-mul, zero-div, div-zero, eq-zero-or-pos, le_of_mul-le-mul_right, lt_of_mul-lt-mul_right, mul-le-mul_right, mul-lt-mul_of_pos_right, mul-div_cancel_left, div-mul-le_self, div-add-mod', mod-lt, zero-mod, mul-mod_right, eq-or-lt_of_le}
 use native.Mathlib.Omega.{arith}
 use lib.Dec.{ltb}
 use lib.ListN.{length, get_or}
@@ -40,6 +40,10 @@ share-lt total sum q p h =
 -- a share of nothing is 0, the share of a quantity of 0 too, and no share of a total within the sum is above its quantity
 pub share-of-none : (total sum q : ℕ) → total ≡ 0 → 0 ≡ share total sum q
 share-of-none total sum q e = sym (ap (λ (n : ℕ). share n sum q) e ∙ share-none sum q)
+
+share-by-none : (total sum q : ℕ) → sum ≡ 0 → share total sum q ≡ 0
+unfolding share
+share-by-none total sum q e = ap (λ (n : ℕ). total * q / n) e ∙ div-zero (total * q)
 
 pub share-of-empty : (total sum q : ℕ) → q ≡ 0 → 0 ≡ share total sum q
 share-of-empty total sum q e = sym (ap (λ (n : ℕ). share total sum n) e ∙ share-zero total sum)
@@ -115,12 +119,12 @@ module _ (qtys : List ℕ) where
   abbrev n : ℕ
   n = length qtys
 
-  module _ (total : ℕ) (fits : total ≤ sumOf qtys) where
+  module _ (total : ℕ) where
     abbrev given : ℕ
     given = sumBelow (λ i. share total (sumOf qtys) (q i)) n
 
     nothing : sumOf qtys ≡ 0 → given ≡ 0
-    nothing e = sum-zero (λ i. share total (sumOf qtys) (q i)) n (λ i _. sym (share-of-none total (sumOf qtys) (q i) (omega arith)))
+    nothing e = sum-zero (λ i. share total (sumOf qtys) (q i)) n (λ i _. share-by-none total (sumOf qtys) (q i) e)
 
     -- the shares are within the total, and the residue is the rest
     pub shares-in : given ≤ total
@@ -152,49 +156,50 @@ module _ (qtys : List ℕ) where
     unfolding sumOf
     residue-lt p = lt_of_mul-lt-mul_right (sumOf qtys) (omega (arith, taken-is, remainders-below total (sumOf qtys) q n p, some-above q n p))
 
-    pub residue-le : residue qtys total ≤ filled qtys
-    residue-le = ⊎_elim (λ (e : sumOf qtys ≡ 0). omega (arith, rest)) (λ (p : 0 < sumOf qtys). omega (arith, residue-lt p)) (eq-zero-or-pos (sumOf qtys))
+    module _ (fits : total ≤ sumOf qtys) where
+      pub residue-le : residue qtys total ≤ filled qtys
+      residue-le = ⊎_elim (λ (e : sumOf qtys ≡ 0). omega (arith, rest)) (λ (p : 0 < sumOf qtys). omega (arith, residue-lt p)) (eq-zero-or-pos (sumOf qtys))
 
-    -- where the total is the sum, nothing is left
-    none-left : total ≡ sumOf qtys → residue qtys total ≡ 0
-    unfolding sumOf
-    none-left e =
-        ⊎_elim (λ (z : sumOf qtys ≡ 0). omega (arith, rest))
-        (λ (p : 0 < sumOf qtys).
-        omega (arith, rest, sum-same (λ i. share total (sumOf qtys) (q i)) q n (λ i _. ap (λ (x : ℕ). share x (sumOf qtys) (q i)) e ∙ share-all (sumOf qtys) (q i) p)))
-        (eq-zero-or-pos (sumOf qtys))
+      -- where the total is the sum, nothing is left
+      none-left : total ≡ sumOf qtys → residue qtys total ≡ 0
+      unfolding sumOf
+      none-left e =
+          ⊎_elim (λ (z : sumOf qtys ≡ 0). omega (arith, rest))
+          (λ (p : 0 < sumOf qtys).
+          omega (arith, rest, sum-same (λ i. share total (sumOf qtys) (q i)) q n (λ i _. ap (λ (x : ℕ). share x (sumOf qtys) (q i)) e ∙ share-all (sumOf qtys) (q i) p)))
+          (eq-zero-or-pos (sumOf qtys))
 
-    module _ (ids : List ℕ) where
-      -- as many units as the residue
-      pub units : sumBelow (λ i. only (ltb (rank ids qtys i) (residue qtys total)) 1) n ≡ min (residue qtys total) n
-      unfolding count rank
-      units = picked-all (before ids qtys) (before-irrefl ids qtys) (before-trans ids qtys) (before-total ids qtys) n (residue qtys total)
+      module _ (ids : List ℕ) where
+        -- as many units as the residue
+        pub units : sumBelow (λ i. only (ltb (rank ids qtys i) (residue qtys total)) 1) n ≡ min (residue qtys total) n
+        unfolding count rank
+        units = picked-all (before ids qtys) (before-irrefl ids qtys) (before-trans ids qtys) (before-total ids qtys) n (residue qtys total)
 
-      -- the lots add up to the total
-      pub lots-sum : sumBelow (lot ids qtys total) n ≡ total
-      unfolding lot
-      lots-sum =
-          omega (
-            arith,
-            sum-add (λ i. share total (sumOf qtys) (q i)) (λ i. only (ltb (rank ids qtys i) (residue qtys total)) 1) n,
-            units,
-            rest,
-            residue-le,
-            count-le (λ i. ltb 0 (q i)) n,
-          )
+        -- the lots add up to the total
+        pub lots-sum : sumBelow (lot ids qtys total) n ≡ total
+        unfolding lot
+        lots-sum =
+            omega (
+              arith,
+              sum-add (λ i. share total (sumOf qtys) (q i)) (λ i. only (ltb (rank ids qtys i) (residue qtys total)) 1) n,
+              units,
+              rest,
+              residue-le,
+              count-le (λ i. ltb 0 (q i)) n,
+            )
 
-      -- a unit of the residue fits: only quantities that are not 0 are given one, and where there is one the total is below the sum
-      unit-fits : (i : ℕ) → rank ids qtys i < residue qtys total → share total (sumOf qtys) (q i) < q i
-      unit-fits i u =
-          ⊎_elim (λ (z : q i ≡ 0). absurd (omega (arith, residue-le, empty-last ids qtys i z)))
-          (λ (p : 0 < q i).
-          ⊎_elim (λ (e : total ≡ sumOf qtys). absurd (omega (arith, none-left e))) (λ (h : total < sumOf qtys). share-lt total (sumOf qtys) (q i) p h) (eq-or-lt_of_le fits))
-          (eq-zero-or-pos (q i))
+        -- a unit of the residue fits: only quantities that are not 0 are given one, and where there is one the total is below the sum
+        unit-fits : (i : ℕ) → rank ids qtys i < residue qtys total → share total (sumOf qtys) (q i) < q i
+        unit-fits i u =
+            ⊎_elim (λ (z : q i ≡ 0). absurd (omega (arith, residue-le, empty-last ids qtys i z)))
+            (λ (p : 0 < q i).
+            ⊎_elim (λ (e : total ≡ sumOf qtys). absurd (omega (arith, none-left e))) (λ (h : total < sumOf qtys). share-lt total (sumOf qtys) (q i) p h) (eq-or-lt_of_le fits))
+            (eq-zero-or-pos (q i))
 
-      -- no lot is above its quantity
-      pub lot-le : (i : ℕ) → lot ids qtys total i ≤ q i
-      unfolding lot
-      lot-le i =
-          ⊎_elim (λ (u : ltb (rank ids qtys i) (residue qtys total) ≡ true). rw u (omega (arith, unit-fits i (ltb-true (rank ids qtys i) (residue qtys total) u))))
-          (λ (u : ltb (rank ids qtys i) (residue qtys total) ≡ false). rw u (omega (arith, share-le total (sumOf qtys) (q i) fits)))
-          (tested (ltb (rank ids qtys i) (residue qtys total)))
+        -- no lot is above its quantity
+        pub lot-le : (i : ℕ) → lot ids qtys total i ≤ q i
+        unfolding lot
+        lot-le i =
+            ⊎_elim (λ (u : ltb (rank ids qtys i) (residue qtys total) ≡ true). rw u (omega (arith, unit-fits i (ltb-true (rank ids qtys i) (residue qtys total) u))))
+            (λ (u : ltb (rank ids qtys i) (residue qtys total) ≡ false). rw u (omega (arith, share-le total (sumOf qtys) (q i) fits)))
+            (tested (ltb (rank ids qtys i) (residue qtys total)))

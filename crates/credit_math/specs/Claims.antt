@@ -100,7 +100,7 @@ pub record ShareIsRight (total sum qty : ℕ) : Type 0 where
   pub one-share : (sum ≡ 0 → total ≡ 0) → (quotient rest : ℕ) → RightShare total sum qty quotient rest
       → (quotient ≡ share total sum qty) × (rest ≡ remainder total sum qty)
 
--- what the rounding takes of all shares
+-- what the rounding takes of all shares: for every list and every total, also one above the sum
 pub record RightRemainders (qtys : List ℕ) (total : ℕ) : Type 0 where
   -- one remainder for each quantity, that of its share
   pub length-is : length (remainders qtys total) ≡ length qtys
@@ -108,9 +108,6 @@ pub record RightRemainders (qtys : List ℕ) (total : ℕ) : Type 0 where
       → RightShare total (sumOf qtys) (get_or qtys i 0) (get_or (shares qtys total) i 0) (get_or (remainders qtys total) i 0)
   -- 'the residue times the sum equals all remainders added'
   pub added : residue qtys total * sumOf qtys ≡ sumOf (remainders qtys total)
-
-abbrev pub RemaindersAreRight : (qtys : List ℕ) (total : ℕ) → Type 0
-RemaindersAreRight qtys total = total ≤ sumOf qtys → RightRemainders qtys total
 
 -- the lots of a total within the sum
 pub record RightLots (ids qtys : List ℕ) (total : ℕ) : Type 0 where

@@ -1,7 +1,7 @@
 // What is proved of the definitions. Each contract here is a theorem, and holds whoever calls the function, which does nothing: so the check of
 // this crate is not passed while one of them is unproved.
 ghost use Rattle.std.specs.Prelude.{Bool, List, ℕ, ◌<◌};
-ghost use Rattle.credit_math.specs.Claims.{RoundsUp, PriceIsRight, TableIsRight, RunningSumsFit, TotalsFit, ShareIsRight, RemaindersAreRight, LotsAreRight};
+ghost use Rattle.credit_math.specs.Claims.{RoundsUp, PriceIsRight, TableIsRight, RunningSumsFit, TotalsFit, ShareIsRight, RightRemainders, LotsAreRight};
 
 pub fn rounds_up()
     ensures { (a b : ℕ) → 0 < b → RoundsUp a b }
@@ -28,7 +28,7 @@ pub fn share_is_right()
 {}
 
 pub fn remainders_are_right()
-    ensures { (qtys : List ℕ) (total : ℕ) → RemaindersAreRight qtys total }
+    ensures { (qtys : List ℕ) (total : ℕ) → RightRemainders qtys total }
 {}
 
 pub fn lots_are_right()
