@@ -10,7 +10,7 @@ ghost use Rattle.credit_math.specs.ProRata.{share, remainder, shares, remainders
 ghost use Rattle.credit_math.specs.Steps.{QuoteOf, ahead, keeping, after, Searched, Whole, Sharing, Allotting, Ranked, filled, rank, lot};
 
 use crate::side_totals::{SideTotals, price_refusal, running_sums};
-use laws::checks::both;
+use laws::checks::{both, either};
 use wide::Wide;
 
 // A successful cross at a single price.
@@ -341,17 +341,12 @@ fn rank_of(ids: &[u64], qtys: &[u64], i: usize) -> u64
 fn comes_before(qty_j: u64, id_j: u64, j: usize, qty_i: u64, id_i: u64, i: usize) -> bool
     ensures { result ≡ lex qty_i qty_j (lex id_j id_i (ltb j i)) }
 {
-    if qty_i < qty_j {
-        return true;
-    }
-    if qty_j < qty_i {
-        return false;
-    }
-    if id_j < id_i {
-        return true;
-    }
-    if id_i < id_j {
-        return false;
-    }
-    j < i
+    below(qty_i, qty_j, below(id_j, id_i, j < i))
+}
+
+// Whether a is below b; where they are equal, as the rest says. Both tests are made: quantities come in any order, so that a branch is often guessed wrong.
+fn below(a: u64, b: u64, rest: bool) -> bool
+    ensures { result ≡ lex a b rest }
+{
+    either(a < b, both(a == b, rest))
 }

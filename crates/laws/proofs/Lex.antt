@@ -1,12 +1,12 @@
 -- Laws of the lexicographic order: one step keeps what the rest has. Assumes nothing.
 use mathlib.Core.Path.{◌≡◌, refl, sym, ◌∙◌, subst}
 use mathlib.Core.Logic.{◌⊎◌, inl, inr, ⊎_elim}
-use mathlib.Core.Bool.{Bool, true, false}
+use mathlib.Core.Bool.{Bool, true, false, ◌&&◌, ◌||◌}
 use Prim.Native.Nat.{ℕ, ◌≤◌, ◌<◌}
 use native.Mathlib.Nat.{le_antisymm, lt_trans}
 use native.Mathlib.Omega.{arith}
-use lib.Dec.{ltb}
-use borrow.Author.Tests.{lt-ltb, le-ltb, ltb-true, ltb-false}
+use lib.Dec.{ltb, eqb}
+use borrow.Author.Tests.{lt-ltb, le-ltb, ltb-true, ltb-false, eqb-true, eqb-false}
 use Rattle.laws.specs.Lex.{lex}
 use Rattle.laws.proofs.Tests.{tested, clash}
 
@@ -35,6 +35,16 @@ lex-equal a b r h = simp (le-ltb a b (omega arith), le-ltb b a (omega arith))
 
 pub lex-same : (a : ℕ) (r : Bool) → lex a a r ≡ r
 lex-same a r = lex-equal a a r refl
+
+-- it is two tests
+pub lex-tests : (a b : ℕ) (r : Bool) → (ltb a b || (eqb a b && r)) ≡ lex a b r
+lex-tests a b r =
+    ⊎_elim (λ (t : ltb a b ≡ true). rw (lex-below a b r (ltb-true a b t)) (rw t refl))
+    (λ (t : ltb a b ≡ false).
+    ⊎_elim (λ (u : eqb a b ≡ true). rw (lex-equal a b r (eqb-true a b u)) (rw (t, u) refl))
+    (λ (u : eqb a b ≡ false). rw (lex-above a b r (omega (arith, ltb-false a b t, eqb-false a b u))) (rw (t, u) refl))
+    (tested (eqb a b)))
+    (tested (ltb a b))
 
 -- where equals are not told apart, it is the test alone
 pub lex-false : (a b : ℕ) → lex a b false ≡ ltb a b
