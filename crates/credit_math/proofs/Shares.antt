@@ -1,5 +1,5 @@
--- Shares are floors: they add up to at most the total, the residue is below the number of quantities that are not 0, and the lots, the residue
--- handed out by rank, add up to the total with none above its quantity. Assumes nothing.
+-- Shares are floors: they add up to at most the total, the residue times the sum is all their remainders added, so that the residue is below the
+-- number of quantities that are not 0, and the lots, the residue handed out by rank, add up to the total with none above its quantity. Assumes nothing.
 use mathlib.Core.Path.{◌≡◌, sym, ◌∙◌, ap}
 use mathlib.Core.Logic.{◌≢◌, ⊎_elim}
 use mathlib.Core.Bool.{true, false}
