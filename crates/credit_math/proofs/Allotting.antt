@@ -1,4 +1,4 @@
--- What the loops of pro-rata keep: the total less the shares so far, the places so far that come before one, and the lot that comes of both.
+-- What the loops of pro-rata keep: the total less the shares so far, the lots and the units handed out so far, and the places so far that come before one.
 -- Assumes nothing.
 use mathlib.Core.Path.{◌≡◌, refl, sym, ◌∙◌, ap, subst}
 use mathlib.Core.Bool.{Bool, true, false, ◌&&◌}

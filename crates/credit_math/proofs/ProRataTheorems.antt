@@ -1,4 +1,4 @@
--- What document 01 says of the lots holds of the definition. Assumes nothing.
+-- What document 02 says of shares and their remainders, and document 01 of the lots, holds of the definitions. Assumes nothing.
 use mathlib.Core.Path.{◌≡◌, sym, ◌∙◌, ap}
 use mathlib.Core.Logic.{⊎_elim}
 use mathlib.Core.List.{List}

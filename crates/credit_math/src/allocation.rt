@@ -167,15 +167,14 @@ fn is_better(a: Quote, b: Quote, reference: u64) -> bool
 fn is_nearer(p: u64, q: u64, reference: u64) -> bool
     ensures { result ≡ lex (apart p reference) (apart q reference) (ltb p q) }
 {
-    let c = abs_diff(p, reference);
-    let d = abs_diff(q, reference);
-    if c < d {
-        return true;
-    }
-    if d < c {
-        return false;
-    }
-    p < q
+    below(abs_diff(p, reference), abs_diff(q, reference), p < q)
+}
+
+// Whether a is below b; where they are equal, as the rest says. Both tests are made: quantities come in any order, so that a branch is often guessed wrong.
+fn below(a: u64, b: u64, rest: bool) -> bool
+    ensures { result ≡ lex a b rest }
+{
+    either(a < b, both(a == b, rest))
 }
 
 fn abs_diff(a: u64, b: u64) -> u64
@@ -342,11 +341,4 @@ fn comes_before(qty_j: u64, id_j: u64, j: usize, qty_i: u64, id_i: u64, i: usize
     ensures { result ≡ lex qty_i qty_j (lex id_j id_i (ltb j i)) }
 {
     below(qty_i, qty_j, below(id_j, id_i, j < i))
-}
-
-// Whether a is below b; where they are equal, as the rest says. Both tests are made: quantities come in any order, so that a branch is often guessed wrong.
-fn below(a: u64, b: u64, rest: bool) -> bool
-    ensures { result ≡ lex a b rest }
-{
-    either(a < b, both(a == b, rest))
 }
