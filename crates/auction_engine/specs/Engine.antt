@@ -6,81 +6,81 @@ use Rattle.events.specs.declared.Event.{Event}
 use Rattle.auction_engine.specs.declared.Session.{Session}
 use Rattle.auction_engine.specs.declared.Answer.{Answer}
 use Rattle.auction_engine.specs.declared.CallRecord.{CallRecord}
-use Rattle.auction_engine.specs.Call.{Call, screen, clear, allocate, exercise, close, settle, skip, finish, expire, screenKind, clearKind, allocateKind, exerciseKind, closeKind, settleKind, skipKind, finishKind, expireKind, limitsRefusal, fieldsRefusal, argumentsRefusal}
-use Rattle.auction_engine.specs.Screening.{screenRefusal, screenEffect, screenEvents}
-use Rattle.auction_engine.specs.Clearing.{clearRefusal, clearEffect, clearEvents}
-use Rattle.auction_engine.specs.Matching.{allocateRefusal, allocateEffect, allocateEvents}
-use Rattle.auction_engine.specs.Rofr.{exerciseRefusal, exerciseEffect, exerciseEvents, closeRefusal, closeEffect, closeEvents}
-use Rattle.auction_engine.specs.Settlement.{settleRefusal, settleEffect, settleEvents, skipRefusal, skipEffect, skipEvents, finishRefusal, finishEffect, finishEvents, expireRefusal, expireEffect, expireEvents}
+use Rattle.auction_engine.specs.Call.{Call, screen, clear, allocate, exercise, close, settle, skip, finish, expire, screen_kind, clear_kind, allocate_kind, exercise_kind, close_kind, settle_kind, skip_kind, finish_kind, expire_kind, limits_refusal, fields_refusal, arguments_refusal}
+use Rattle.auction_engine.specs.Screening.{screen_refusal, screen_effect, screen_events}
+use Rattle.auction_engine.specs.Clearing.{clear_refusal, clear_effect, clear_events}
+use Rattle.auction_engine.specs.Matching.{allocate_refusal, allocate_effect, allocate_events}
+use Rattle.auction_engine.specs.Rofr.{exercise_refusal, exercise_effect, exercise_events, close_refusal, close_effect, close_events}
+use Rattle.auction_engine.specs.Settlement.{settle_refusal, settle_effect, settle_events, skip_refusal, skip_effect, skip_events, finish_refusal, finish_effect, finish_events, expire_refusal, expire_effect, expire_events}
 
 -- the row of the call's own kind
-unfoldable pub ownRefusal : Session → Call → ℕ
-ownRefusal s (screen now i side verdict hasId id) = screenRefusal s now i side
-ownRefusal s (clear now) = clearRefusal s now
-ownRefusal s (allocate now n) = allocateRefusal s n
-ownRefusal s (exercise now issuer i q) = exerciseRefusal s now issuer i q
-ownRefusal s (close now caller) = closeRefusal s now caller
-ownRefusal s (settle i) = settleRefusal s i
-ownRefusal s (skip now i reason) = skipRefusal s i reason
-ownRefusal s (finish now) = finishRefusal s
-ownRefusal s (expire now) = expireRefusal s now
+unfoldable pub own_refusal : Session → Call → ℕ
+own_refusal s (screen now i side verdict has_id id) = screen_refusal s now i side
+own_refusal s (clear now) = clear_refusal s now
+own_refusal s (allocate now n) = allocate_refusal s n
+own_refusal s (exercise now issuer i q) = exercise_refusal s now issuer i q
+own_refusal s (close now caller) = close_refusal s now caller
+own_refusal s (settle i) = settle_refusal s i
+own_refusal s (skip now i reason) = skip_refusal s i reason
+own_refusal s (finish now) = finish_refusal s
+own_refusal s (expire now) = expire_refusal s now
 
 -- 'Library call, any' | all of 9, then all of 4, then the call's own row; 0 where the call is accepted
 unfoldable pub refusal : Session → Call → ℕ
-refusal s c = limitsRefusal s then fieldsRefusal s then argumentsRefusal c then ownRefusal s c
+refusal s c = limits_refusal s then fields_refusal s then arguments_refusal c then own_refusal s c
 
 -- the session after an accepted call
 unfoldable pub effect : Session → Call → Session
-effect s (screen now i side verdict hasId id) = screenEffect s i verdict hasId id
-effect s (clear now) = clearEffect s
-effect s (allocate now n) = allocateEffect s n
-effect s (exercise now issuer i q) = exerciseEffect s issuer i q
-effect s (close now caller) = closeEffect s
-effect s (settle i) = settleEffect s i
-effect s (skip now i reason) = skipEffect s i
-effect s (finish now) = finishEffect s
-effect s (expire now) = expireEffect s
+effect s (screen now i side verdict has_id id) = screen_effect s i verdict has_id id
+effect s (clear now) = clear_effect s
+effect s (allocate now n) = allocate_effect s n
+effect s (exercise now issuer i q) = exercise_effect s issuer i q
+effect s (close now caller) = close_effect s
+effect s (settle i) = settle_effect s i
+effect s (skip now i reason) = skip_effect s i
+effect s (finish now) = finish_effect s
+effect s (expire now) = expire_effect s
 
 -- the events of an accepted call
 unfoldable pub events : Session → Call → List Event
-events s (screen now i side verdict hasId id) = screenEvents s i verdict hasId id
-events s (clear now) = clearEvents s
-events s (allocate now n) = allocateEvents s n
-events s (exercise now issuer i q) = exerciseEvents s i q
-events s (close now caller) = closeEvents s
-events s (settle i) = settleEvents s i
-events s (skip now i reason) = skipEvents s i reason
-events s (finish now) = finishEvents s
-events s (expire now) = expireEvents s
+events s (screen now i side verdict has_id id) = screen_events s i verdict has_id id
+events s (clear now) = clear_events s
+events s (allocate now n) = allocate_events s n
+events s (exercise now issuer i q) = exercise_events s i q
+events s (close now caller) = close_events s
+events s (settle i) = settle_events s i
+events s (skip now i reason) = skip_events s i reason
+events s (finish now) = finish_events s
+events s (expire now) = expire_events s
 
 -- 'A refused call returns the session as given', with no event
-abbrev pub refusedBy : Session → ℕ → Answer
-refusedBy s number = record { refusal = number; session = s; events = packed [] }
+abbrev pub refused_by : Session → ℕ → Answer
+refused_by s number = record { refusal = number; session = s; events = packed [] }
 
 -- what a call answers
 unfoldable pub answer : Session → Call → Answer
 answer s c =
     cond (eqb (refusal s c) 0)
     (record { refusal = 0; session = effect s c; events = packed (events s c) })
-    (refusedBy s (refusal s c))
+    (refused_by s (refusal s c))
 
 -- the call that a record says, by its kind
-unfoldable pub callOf : CallRecord → Call
-callOf r =
-    cond (eqb r.kind screenKind) (screen r.now r.order r.side r.verdict r.has_id r.id)
-    (cond (eqb r.kind clearKind) (clear r.now)
-    (cond (eqb r.kind allocateKind) (allocate r.now r.max_fills)
-    (cond (eqb r.kind exerciseKind) (exercise r.now r.wallet r.fill r.qty)
-    (cond (eqb r.kind closeKind) (close r.now r.wallet)
-    (cond (eqb r.kind settleKind) (settle r.fill)
-    (cond (eqb r.kind skipKind) (skip r.now r.fill r.reason)
-    (cond (eqb r.kind finishKind) (finish r.now)
+unfoldable pub call_of : CallRecord → Call
+call_of r =
+    cond (eqb r.kind screen_kind) (screen r.now r.order r.side r.verdict r.has_id r.id)
+    (cond (eqb r.kind clear_kind) (clear r.now)
+    (cond (eqb r.kind allocate_kind) (allocate r.now r.max_fills)
+    (cond (eqb r.kind exercise_kind) (exercise r.now r.wallet r.fill r.qty)
+    (cond (eqb r.kind close_kind) (close r.now r.wallet)
+    (cond (eqb r.kind settle_kind) (settle r.fill)
+    (cond (eqb r.kind skip_kind) (skip r.now r.fill r.reason)
+    (cond (eqb r.kind finish_kind) (finish r.now)
     (expire r.now))))))))
 
 -- 4 for an argument of a call record: a kind above 8 is outside its values too
-unfoldable pub recordArguments : CallRecord → ℕ
-recordArguments r = unless (leb r.kind expireKind) 4 then argumentsRefusal (callOf r)
+unfoldable pub record_arguments : CallRecord → ℕ
+record_arguments r = unless (leb r.kind expire_kind) 4 then arguments_refusal (call_of r)
 
 -- what a call record answers; one of a kind above 8 is refused as any library call is: 9, then 4
 unfoldable pub applied : Session → CallRecord → Answer
-applied s r = cond (leb r.kind expireKind) (answer s (callOf r)) (refusedBy s (limitsRefusal s then 4))
+applied s r = cond (leb r.kind expire_kind) (answer s (call_of r)) (refused_by s (limits_refusal s then 4))

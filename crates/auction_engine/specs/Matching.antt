@@ -3,98 +3,98 @@ use Rattle.std.specs.Prelude.{Bool, false, cond, not, ◌&&◌, ◌||◌, List, 
 use Rattle.laws.specs.Search.{first, every}
 use Rattle.laws.specs.Lists.{same}
 use Rattle.laws.specs.Checks.{unless, ◌then◌}
-use Rattle.book.specs.Limits.{maxFills}
-use Rattle.book.specs.Book.{buySide, sellSide, noWallet, orderIn, reorder}
+use Rattle.book.specs.Limits.{max_fills}
+use Rattle.book.specs.Book.{buy_side, sell_side, no_wallet, order_in, reorder}
 use Rattle.book.specs.declared.Order.{Order}
 use Rattle.book.specs.declared.Fill.{Fill}
 use Rattle.events.specs.declared.Event.{Event}
 use Rattle.events.specs.declared.Event.TheVariants.{FillAllocated, PhaseChanged}
 use Rattle.auction_engine.specs.declared.Session.{Session}
-use Rattle.auction_engine.specs.Session.{orderAt, left, remake, atPhase, settling, issuerRofr}
-use Rattle.auction_engine.specs.Call.{allocateKind, admits, limitsRefusal, fieldsRefusal}
+use Rattle.auction_engine.specs.Session.{order_at, left, remake, at_phase, settling, issuer_rofr}
+use Rattle.auction_engine.specs.Call.{allocate_kind, admits, limits_refusal, fields_refusal}
 
 -- the order with q less of its lot left
-abbrev pub lessLeft : Order → ℕ → Order
-lessLeft o q = reorder o o.alloc (o.alloc_left - q) o.screened o.eligible o.investor_id
+abbrev pub less_left : Order → ℕ → Order
+less_left o q = reorder o o.alloc (o.alloc_left - q) o.screened o.eligible o.investor_id
 
 -- an order of that side with something left
-abbrev pub dueOn : (side : ℕ) → Order → Bool
-dueOn side o = eqb o.side side && ltb 0 o.alloc_left
+abbrev pub due_on : (side : ℕ) → Order → Bool
+due_on side o = eqb o.side side && ltb 0 o.alloc_left
 
 -- the first such order among the first n, or n
-abbrev pub firstDue : List Order → (n side : ℕ) → ℕ
-firstDue os n side = first (λ i. dueOn side (orderIn os i)) n
+abbrev pub first_due : List Order → (n side : ℕ) → ℕ
+first_due os n side = first (λ i. due_on side (order_in os i)) n
 
-unfoldable pub dueAt : Session → (side : ℕ) → ℕ
-dueAt s side = firstDue s.orders s.order_count side
+unfoldable pub due_at : Session → (side : ℕ) → ℕ
+due_at s side = first_due s.orders s.order_count side
 
-abbrev pub buyAt : Session → ℕ
-buyAt s = dueAt s buySide
+abbrev pub buy_at : Session → ℕ
+buy_at s = due_at s buy_side
 
-abbrev pub sellAt : Session → ℕ
-sellAt s = dueAt s sellSide
+abbrev pub sell_at : Session → ℕ
+sell_at s = due_at s sell_side
 
 -- a fill is due
 unfoldable pub due : Session → Bool
-due s = ltb (buyAt s) s.order_count && ltb (sellAt s) s.order_count
+due s = ltb (buy_at s) s.order_count && ltb (sell_at s) s.order_count
 
 -- the quantity of the fill that is due: the smaller of what the two have left
-abbrev pub dueQty : Session → ℕ
-dueQty s = min (left s (buyAt s)) (left s (sellAt s))
+abbrev pub due_qty : Session → ℕ
+due_qty s = min (left s (buy_at s)) (left s (sell_at s))
 
 -- a fill of q as it is first written
-abbrev pub fillOf : (buy sell : Order) → ℕ → Fill
-fillOf buy sell q = record { buyer = buy.owner; seller = sell.owner; qty = q; rofr = false; settled = false }
+abbrev pub fill_of : (buy sell : Order) → ℕ → Fill
+fill_of buy sell q = record { buyer = buy.owner; seller = sell.owner; qty = q; rofr = false; settled = false }
 
 -- order b buys q of order a
 unfoldable pub pair : Session → (b a q : ℕ) → Session
 pair s b a q =
     remake s s.cleared s.phase s.rofr_qty s.fills_settled s.skipped_fills
-    (set (set s.orders b (lessLeft (orderAt s b) q)) a (lessLeft (orderAt s a) q))
-    (set s.fills s.fill_count (fillOf (orderAt s b) (orderAt s a) q))
+    (set (set s.orders b (less_left (order_at s b) q)) a (less_left (order_at s a) q))
+    (set s.fills s.fill_count (fill_of (order_at s b) (order_at s a) q))
     (s.fill_count + 1)
 
 -- one fill, where one is due
 unfoldable pub one : Session → Session
-one s = cond (due s) (pair s (buyAt s) (sellAt s) (dueQty s)) s
+one s = cond (due s) (pair s (buy_at s) (sell_at s) (due_qty s)) s
 
 -- at most n fills
-unfoldable pub afterFills : ℕ → Session → Session
-afterFills zero s = s
-afterFills (suc n) s = afterFills n (one s)
+unfoldable pub after_fills : ℕ → Session → Session
+after_fills zero s = s
+after_fills (suc n) s = after_fills n (one s)
 
 -- 'a fill due with 24 held, the call's own counted', within n fills
 unfoldable pub overfull : ℕ → Session → Bool
 overfull zero s = false
-overfull (suc n) s = (due s && leb maxFills s.fill_count) || overfull n (one s)
+overfull (suc n) s = (due s && leb max_fills s.fill_count) || overfull n (one s)
 
 -- what any call checks, and the phase
-abbrev pub allocateChecks : Session → ℕ
-allocateChecks s = (limitsRefusal s then fieldsRefusal s) then unless (admits s.phase allocateKind) 10
+abbrev pub allocate_checks : Session → ℕ
+allocate_checks s = (limits_refusal s then fields_refusal s) then unless (admits s.phase allocate_kind) 10
 
 -- Allocate | 10; 18 a fill due with 24 held, the call's own counted
-unfoldable pub allocateRefusal : Session → (n : ℕ) → ℕ
-allocateRefusal s n = unless (admits s.phase allocateKind) 10 then unless (not (overfull n s)) 18
+unfoldable pub allocate_refusal : Session → (n : ℕ) → ℕ
+allocate_refusal s n = unless (admits s.phase allocate_kind) 10 then unless (not (overfull n s)) 18
 
 -- every lot is paired
 unfoldable pub done : Session → Bool
 done s = every (λ i. eqb (left s i) 0) s.order_count
 
 -- the phase after the last fill: IssuerRofr with an authority, else Settling
-unfoldable pub phaseAfter : Session → ℕ
-phaseAfter s = cond (same s.params.rofr_authority noWallet) settling issuerRofr
+unfoldable pub phase_after : Session → ℕ
+phase_after s = cond (same s.params.rofr_authority no_wallet) settling issuer_rofr
 
 abbrev pub matched : Session → Session
-matched s = cond (done s) (atPhase s (phaseAfter s)) s
+matched s = cond (done s) (at_phase s (phase_after s)) s
 
-unfoldable pub allocateEffect : Session → (n : ℕ) → Session
-allocateEffect s n = matched (afterFills n s)
+unfoldable pub allocate_effect : Session → (n : ℕ) → Session
+allocate_effect s n = matched (after_fills n s)
 
 -- `fill K B S QTY` for each of at most n fills
-unfoldable pub fillEvents : ℕ → Session → List Event
-fillEvents zero s = []
-fillEvents (suc n) s = cond (due s) (FillAllocated s.fill_count (buyAt s) (sellAt s) (dueQty s) ∷ fillEvents n (one s)) []
+unfoldable pub fill_events : ℕ → Session → List Event
+fill_events zero s = []
+fill_events (suc n) s = cond (due s) (FillAllocated s.fill_count (buy_at s) (sell_at s) (due_qty s) ∷ fill_events n (one s)) []
 
 -- the fills, then the change of phase where every lot is paired
-unfoldable pub allocateEvents : Session → (n : ℕ) → List Event
-allocateEvents s n = fillEvents n s ++ cond (done (afterFills n s)) (PhaseChanged s.phase (phaseAfter s) ∷ []) []
+unfoldable pub allocate_events : Session → (n : ℕ) → List Event
+allocate_events s n = fill_events n s ++ cond (done (after_fills n s)) (PhaseChanged s.phase (phase_after s) ∷ []) []

@@ -1,21 +1,21 @@
 -- What the private functions of an allocate keep on the way. proofs/ shows that they come to Matching.antt.
 use Rattle.std.specs.Prelude.{cond, ◌&&◌, List, ℕ, ltb}
-use Rattle.book.specs.Book.{buySide, sellSide}
+use Rattle.book.specs.Book.{buy_side, sell_side}
 use Rattle.book.specs.declared.Order.{Order}
 use Rattle.events.specs.Events.{packed}
 use Rattle.auction_engine.specs.declared.Session.{Session}
 use Rattle.auction_engine.specs.declared.Answer.{Answer}
 use Rattle.auction_engine.specs.declared.matching.Pair.{Pair}
-use Rattle.auction_engine.specs.Matching.{firstDue, afterFills, overfull, fillEvents}
-use Rattle.auction_engine.specs.Engine.{refusedBy}
+use Rattle.auction_engine.specs.Matching.{first_due, after_fills, overfull, fill_events}
+use Rattle.auction_engine.specs.Engine.{refused_by}
 
 -- the two orders that the next fill pairs, if one is due
-abbrev pub nextPair : List Order → ℕ → Pair
-nextPair os n =
-    let b : ℕ = firstDue os n buySide in
-    let a : ℕ = firstDue os n sellSide in
+abbrev pub next_pair : List Order → ℕ → Pair
+next_pair os n =
+    let b : ℕ = first_due os n buy_side in
+    let a : ℕ = first_due os n sell_side in
     record { due = ltb b n && ltb a n; buy = b; sell = a }
 
 -- at most n fills; 18, and the session as it was, where one more fill is due and no place is free
-abbrev pub filledBy : Session → (n : ℕ) → Answer
-filledBy s n = cond (overfull n s) (refusedBy s 18) (record { refusal = 0; session = afterFills n s; events = packed (fillEvents n s) })
+abbrev pub filled_by : Session → (n : ℕ) → Answer
+filled_by s n = cond (overfull n s) (refused_by s 18) (record { refusal = 0; session = after_fills n s; events = packed (fill_events n s) })

@@ -4,65 +4,65 @@ use Rattle.std.specs.Int.Signed.{lt_z, le_z}
 use Rattle.laws.specs.Search.{some}
 use Rattle.laws.specs.Lists.{same}
 use Rattle.laws.specs.Checks.{unless, ◌then◌}
-use Rattle.clock.specs.Clock.{sumFits}
-use Rattle.credit_math.specs.Limits.{maxOrders}
-use Rattle.book.specs.Book.{listed, noWallet}
+use Rattle.clock.specs.Clock.{sum_fits}
+use Rattle.credit_math.specs.Limits.{max_orders}
+use Rattle.book.specs.Book.{listed, no_wallet}
 use Rattle.book.specs.declared.Params.{Params}
 use Rattle.book.specs.declared.Given.{Given}
 use Rattle.book.specs.declared.Row.{Row}
-use Rattle.escrow.specs.Cover.{decimalsRefusal, coverRefusal}
+use Rattle.escrow.specs.Cover.{decimals_refusal, cover_refusal}
 use Rattle.escrow.specs.declared.Cover.{Cover}
-use Rattle.disclosure.specs.Disclosure.{maxBand}
+use Rattle.disclosure.specs.Disclosure.{max_band}
 use Rattle.auction_engine.specs.declared.Session.{Session}
-use Rattle.auction_engine.specs.Session.{orderAt, rewritten, fresh}
+use Rattle.auction_engine.specs.Session.{order_at, rewritten, fresh}
 
 -- `SH`, `SI` | 4: 'reserve 8 (0 if forced)', policy, 'band_bps 8 (at most 10,000)', of `SI` the decimals; then
 -- 5 unless reveal_end < settle_deadline, window ≥ 0, window 0 without authority, reveal_end + window fits and is below the deadline, min_reveals ≥ 2;
 -- then 6 max_cash 0
-unfoldable pub headerRefusal : Params → Given → Cover → ℕ
-headerRefusal p g cover =
+unfoldable pub header_refusal : Params → Given → Cover → ℕ
+header_refusal p g cover =
     unless (not (p.forced && ltb 0 g.reserve)) 4
     then unless (leb g.policy 3) 4
-    then unless (leb g.band_bps maxBand) 4
-    then decimalsRefusal cover
+    then unless (leb g.band_bps max_band) 4
+    then decimals_refusal cover
     then unless (lt_z p.reveal_end p.settle_deadline) 5
     then unless (le_z (pos 0) p.rofr_window) 5
-    then unless (not (same p.rofr_authority noWallet) || le_z p.rofr_window (pos 0)) 5
-    then unless (sumFits p.reveal_end p.rofr_window) 5
+    then unless (not (same p.rofr_authority no_wallet) || le_z p.rofr_window (pos 0)) 5
+    then unless (sum_fits p.reveal_end p.rofr_window) 5
     then unless (lt_z (p.reveal_end +ℤ p.rofr_window) p.settle_deadline) 5
     then unless (leb 2 p.min_reveals) 5
     then unless (ltb 0 p.max_cash) 6
 
 -- `OR`, of the row by itself | 4 side; 6 escrow 0, revealed with limit or qty 0, unrevealed with either not 0; 31 uncovered
-unfoldable pub rowRefusal : Cover → Row → ℕ
-rowRefusal cover row =
+unfoldable pub row_refusal : Cover → Row → ℕ
+row_refusal cover row =
     unless (leb row.side 1) 4
     then unless (ltb 0 row.escrowed) 6
     then unless (cond row.revealed (ltb 0 row.limit && ltb 0 row.qty) (eqb row.limit 0 && eqb row.qty 0)) 6
-    then coverRefusal cover row
+    then cover_refusal cover row
 
 -- `OR` | these; 7 seventeenth; 8 owner seen
-unfoldable pub orderRefusal : Session → Cover → Row → ℕ
-orderRefusal s cover row =
-    rowRefusal cover row
-    then unless (ltb s.order_count maxOrders) 7
-    then unless (not (some (λ i. same (orderAt s i).owner row.owner) s.order_count)) 8
+unfoldable pub order_refusal : Session → Cover → Row → ℕ
+order_refusal s cover row =
+    row_refusal cover row
+    then unless (ltb s.order_count max_orders) 7
+    then unless (not (some (λ i. same (order_at s i).owner row.owner) s.order_count)) 8
 
 -- one order more
-unfoldable pub withOrder : Session → Row → Session
-withOrder s row =
+unfoldable pub with_order : Session → Row → Session
+with_order s row =
     rewritten s s.cleared s.phase s.rofr_qty s.fills_settled s.skipped_fills
     (set s.orders s.order_count (listed row)) (s.order_count + 1) s.fills s.fill_count
 
 -- s with these orders one after the other
-abbrev pub withRows : Session → List Row → Session
-withRows s [] = s
-withRows s (row ∷ rows) = withRows (withOrder s row) rows
+abbrev pub with_rows : Session → List Row → Session
+with_rows s [] = s
+with_rows s (row ∷ rows) = with_rows (with_order s row) rows
 
 -- each of these orders is accepted where it stands
 abbrev pub RowsAccepted : Session → Cover → List Row → Type 0
 RowsAccepted s cover [] = Unit
-RowsAccepted s cover (row ∷ rows) = (orderRefusal s cover row ≡ 0) × RowsAccepted (withOrder s row) cover rows
+RowsAccepted s cover (row ∷ rows) = (order_refusal s cover row ≡ 0) × RowsAccepted (with_order s row) cover rows
 
 -- 'Its session opens with a header and orders that the `SH` and `OR` rows below accept', or `SI` and `OR`
 pub record Opening : Type 0 where
@@ -70,8 +70,8 @@ pub record Opening : Type 0 where
   pub given : Given
   pub cover : Cover
   pub rows : List Row
-  pub header-accepted : headerRefusal params given cover ≡ 0
-  pub rows-accepted : RowsAccepted (fresh params given) cover rows
+  pub header_accepted : header_refusal params given cover ≡ 0
+  pub rows_accepted : RowsAccepted (fresh params given) cover rows
 
 abbrev pub opened : Opening → Session
-opened o = withRows (fresh o.params o.given) o.rows
+opened o = with_rows (fresh o.params o.given) o.rows

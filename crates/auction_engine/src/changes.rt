@@ -1,7 +1,7 @@
 // What a call changes: small enough to be written where the session lives, so that whoever holds a session keeps it in place.
 ghost use Rattle.std.specs.Prelude.{◌≡◌, set};
-ghost use Rattle.auction_engine.specs.Session.{atPhase};
-ghost use Rattle.auction_engine.specs.Changes.{keeping, unchanged, early, recordChange, changed, madeOf};
+ghost use Rattle.auction_engine.specs.Session.{at_phase};
+ghost use Rattle.auction_engine.specs.Changes.{keeping, unchanged, early, record_change, changed, made_of};
 
 use crate::{Answer, CallRecord, Session, opening};
 use book::{Fill, Order, Row};
@@ -28,7 +28,7 @@ pub struct Change {
 impl Session {
     // What an order that a file lists changes, or else the call that a record says.
     pub fn change(&self, order: bool, cover: Cover, row: Row, call: CallRecord) -> Change
-        ensures { result ≡ recordChange self.now order cover row call }
+        ensures { result ≡ record_change self.now order cover row call }
     {
         if order {
             return opening::order_change(self, cover, row);
@@ -100,7 +100,7 @@ impl Session {
 
     // Another phase.
     pub(crate) fn phase_change(&self, to: u8, events: EventPair) -> Change
-        ensures { result ≡ keeping (atPhase self.now to) 0 events }
+        ensures { result ≡ keeping (at_phase self.now to) 0 events }
     {
         let mut c = self.keeping(events);
         c.phase = to;
@@ -109,7 +109,7 @@ impl Session {
 
     // The answer that a decided change comes to.
     pub(crate) fn made(self, c: Change) -> Answer
-        ensures { result ≡ madeOf self c }
+        ensures { result ≡ made_of self c }
     {
         let said = c.events;
         let session = self.changed(c);

@@ -2,14 +2,14 @@
 ghost use Rattle.std.specs.Prelude.{◌≡◌, not, ◌||◌, ◌≤◌};
 ghost use Rattle.laws.specs.Search.{every};
 ghost use Rattle.laws.specs.Checks.{◌then◌};
-ghost use Rattle.credit_math.specs.Limits.{maxOrders};
-ghost use Rattle.book.specs.Book.{orderIn};
+ghost use Rattle.credit_math.specs.Limits.{max_orders};
+ghost use Rattle.book.specs.Book.{order_in};
 ghost use Rattle.events.specs.Events.{packed};
 ghost use Rattle.auction_engine.specs.Call as call;
-ghost use Rattle.auction_engine.specs.Call.{limitsRefusal, fieldsRefusal};
-ghost use Rattle.auction_engine.specs.Clearing.{clearChecks, withLot, clearedBy, clearLines};
+ghost use Rattle.auction_engine.specs.Call.{limits_refusal, fields_refusal};
+ghost use Rattle.auction_engine.specs.Clearing.{clear_checks, with_lot, cleared_by, clear_lines};
 ghost use Rattle.auction_engine.specs.Engine.{answer};
-ghost use Rattle.auction_engine.specs.Changes.{changeOf};
+ghost use Rattle.auction_engine.specs.Changes.{change_of};
 
 use crate::changes::Change;
 use crate::{Answer, Cleared, Session};
@@ -39,7 +39,7 @@ impl Session {
 
     // Refused for sure by its window or its phase; else undecided.
     pub(crate) fn clear_change(&self, now: i64) -> Change
-        ensures { result ≡ changeOf self.now (call.clear now) }
+        ensures { result ≡ change_of self.now (call.clear now) }
     {
         if both(self.in_window(now), crate::admits(self.phase, crate::CLEAR)) {
             return self.early(0);
@@ -49,7 +49,7 @@ impl Session {
 
     // All checks but the last, 17, which the outcome has.
     fn clear_refusal(&self, now: i64) -> u8
-        ensures { result ≡ limitsRefusal self.now then fieldsRefusal self.now then clearChecks self.now now }
+        ensures { result ≡ limits_refusal self.now then fields_refusal self.now then clear_checks self.now now }
     {
         let bad = self.checked();
         if bad != 0 {
@@ -70,8 +70,8 @@ impl Session {
 
     // A price: its figures and lots, in Allocating; a failure: Failed. Both are written in place: a session is large.
     fn cleared_by(self, found: Outcome) -> Answer
-        requires { self.order_count ≤ maxOrders }
-        ensures { result ≡ record { refusal = 0; session = clearedBy self found; events = packed (clearLines self found) } }
+        requires { self.order_count ≤ max_orders }
+        ensures { result ≡ record { refusal = 0; session = cleared_by self found; events = packed (clear_lines self found) } }
     {
         let events = self.clear_events(found);
         let mut session = self;
@@ -110,7 +110,7 @@ impl Session {
 
     // The clear, or why it failed, and the change of phase.
     fn clear_events(&self, found: Outcome) -> Events
-        ensures { result ≡ packed (clearLines self.now found) }
+        ensures { result ≡ packed (clear_lines self.now found) }
     {
         let p = self.params;
         let g = self.given;
@@ -136,8 +136,8 @@ impl Session {
 }
 
 fn all_screened(orders: [Order; Session::MAX_ORDERS], n: usize) -> bool
-    requires { n ≤ maxOrders }
-    ensures { result ≡ every (λ i. not (orderIn orders i).revealed || (orderIn orders i).screened) n }
+    requires { n ≤ max_orders }
+    ensures { result ≡ every (λ i. not (order_in orders i).revealed || (order_in orders i).screened) n }
 {
     let mut i = 0;
     while i < n {
@@ -159,7 +159,7 @@ fn is_ready(o: Order) -> bool
 
 // The lot of a clear: all of it is left.
 fn with_lot(o: Order, lot: u64) -> Order
-    ensures { result ≡ withLot o lot }
+    ensures { result ≡ with_lot o lot }
 {
     let mut allotted = o;
     allotted.alloc = lot;

@@ -4,11 +4,11 @@
 ghost use Rattle.std.specs.Prelude.{◌≡◌, true, false, not, ◌||◌, [], ◌+◌, ◌<◌, ◌≤◌, leb, eqb};
 ghost use Rattle.laws.specs.Search.{every};
 ghost use Rattle.laws.specs.Checks.{◌then◌};
-ghost use Rattle.credit_math.specs.Limits.{maxOrders};
-ghost use Rattle.book.specs.Book.{orderIn};
+ghost use Rattle.credit_math.specs.Limits.{max_orders};
+ghost use Rattle.book.specs.Book.{order_in};
 ghost use Rattle.auction_engine.specs.Session.{fresh};
-ghost use Rattle.auction_engine.specs.Call.{admits, limitsRefusal, fieldsRefusal, inWindow};
-ghost use Rattle.auction_engine.specs.Engine.{refusedBy, recordArguments, applied};
+ghost use Rattle.auction_engine.specs.Call.{admits, limits_refusal, fields_refusal, in_window};
+ghost use Rattle.auction_engine.specs.Engine.{refused_by, record_arguments, applied};
 
 use book::{Fill, Given, Order, Params};
 use events::Events;
@@ -110,7 +110,7 @@ pub struct Answer {
 impl Answer {
     // A refused call hands the session back as it was given, with no event.
     pub fn refused(session: Session, refusal: u8) -> Self
-        ensures { result ≡ refusedBy session refusal }
+        ensures { result ≡ refused_by session refusal }
     {
         let events = Events::none();
         Answer {
@@ -194,7 +194,7 @@ impl Session {
 
     // What refuses a record of a kind above 8.
     pub(crate) fn no_such_call(&self) -> u8
-        ensures { result ≡ limitsRefusal self.now then 4 }
+        ensures { result ≡ limits_refusal self.now then 4 }
     {
         first_of(self.limits_refusal(), refusals::BAD_FIELD)
     }
@@ -202,7 +202,7 @@ impl Session {
 
 // 4 where a call's own arguments are outside their values, else 0: what ends a file.
 pub fn arguments_refusal(call: CallRecord) -> u8
-    ensures { result ≡ recordArguments call }
+    ensures { result ≡ record_arguments call }
 {
     let kind = call.kind;
     let id = call.id;
@@ -283,7 +283,7 @@ fn not_ended(phase: u8) -> bool
 impl Session {
     // What any call checks first: 9, then 4 for a field of the session.
     fn checked(&self) -> u8
-        ensures { result ≡ limitsRefusal self.now then fieldsRefusal self.now }
+        ensures { result ≡ limits_refusal self.now then fields_refusal self.now }
     {
         let over = self.limits_refusal();
         if over != 0 {
@@ -294,7 +294,7 @@ impl Session {
 
     // 9: a count or a figure above its limit.
     fn limits_refusal(&self) -> u8
-        ensures { result ≡ limitsRefusal self.now }
+        ensures { result ≡ limits_refusal self.now }
     {
         let p = self.params;
         let g = self.given;
@@ -317,8 +317,8 @@ impl Session {
 
     // 4: a field of the session outside its values.
     fn fields_refusal(&self) -> u8
-        requires { self.now.order_count ≤ maxOrders }
-        ensures { result ≡ fieldsRefusal self.now }
+        requires { self.now.order_count ≤ max_orders }
+        ensures { result ≡ fields_refusal self.now }
     {
         let g = self.given;
         let orders = self.orders;
@@ -330,7 +330,7 @@ impl Session {
 
     // From the end of the reveals up to, without, the deadline.
     fn in_window(&self, now: i64) -> bool
-        ensures { result ≡ inWindow self.now now }
+        ensures { result ≡ in_window self.now now }
     {
         let p = self.params;
         both(
@@ -341,8 +341,8 @@ impl Session {
 }
 
 fn sides_ok(orders: [Order; Session::MAX_ORDERS], n: usize) -> bool
-    requires { n ≤ maxOrders }
-    ensures { result ≡ every (λ i. leb (orderIn orders i).side 1) n }
+    requires { n ≤ max_orders }
+    ensures { result ≡ every (λ i. leb (order_in orders i).side 1) n }
 {
     let mut i = 0;
     while i < n {

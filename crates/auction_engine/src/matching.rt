@@ -2,14 +2,14 @@
 ghost use Rattle.std.specs.Prelude.{◌≡◌, cond, not, ◌+◌, ◌<◌, ◌≤◌, min, ltb, eqb};
 ghost use Rattle.laws.specs.Sums.{only};
 ghost use Rattle.laws.specs.Search.{every};
-ghost use Rattle.credit_math.specs.Limits.{maxOrders};
-ghost use Rattle.book.specs.Limits.{maxFills};
-ghost use Rattle.book.specs.Book.{orderIn};
-ghost use Rattle.events.specs.Events.{lineOf};
+ghost use Rattle.credit_math.specs.Limits.{max_orders};
+ghost use Rattle.book.specs.Limits.{max_fills};
+ghost use Rattle.book.specs.Book.{order_in};
+ghost use Rattle.events.specs.Events.{line_of};
 ghost use Rattle.events.specs.declared.Event.TheVariants.{FillAllocated};
 ghost use Rattle.auction_engine.specs.Call as call;
-ghost use Rattle.auction_engine.specs.Matching.{allocateChecks, lessLeft, dueOn, fillOf, phaseAfter};
-ghost use Rattle.auction_engine.specs.NextFill.{nextPair, filledBy};
+ghost use Rattle.auction_engine.specs.Matching.{allocate_checks, less_left, due_on, fill_of, phase_after};
+ghost use Rattle.auction_engine.specs.NextFill.{next_pair, filled_by};
 ghost use Rattle.auction_engine.specs.Engine.{answer};
 ghost use Rattle.auction_engine.specs.Changes.{early};
 
@@ -49,7 +49,7 @@ impl Session {
 
     // Refused for sure by its phase; else undecided.
     pub(crate) fn allocate_change(&self) -> Change
-        ensures { result ≡ early self.now (only (not (call.admits self.now.phase call.allocateKind)) (allocateChecks self.now)) }
+        ensures { result ≡ early self.now (only (not (call.admits self.now.phase call.allocate_kind)) (allocate_checks self.now)) }
     {
         if crate::admits(self.phase, crate::ALLOCATE) {
             return self.early(0);
@@ -59,7 +59,7 @@ impl Session {
 
     // All checks but the last, 18, which the fills have.
     fn allocate_refusal(&self) -> u8
-        ensures { result ≡ allocateChecks self.now }
+        ensures { result ≡ allocate_checks self.now }
     {
         let bad = self.checked();
         let phase = unless(
@@ -71,8 +71,8 @@ impl Session {
 
     // At most n fills, each written in place: a session is too large to copy for each. 18 where one more is due and no place free.
     fn filled_by(self, n: u8) -> Answer
-        requires { (self.order_count ≤ maxOrders) × (self.fill_count ≤ maxFills) }
-        ensures { result ≡ filledBy self n }
+        requires { (self.order_count ≤ max_orders) × (self.fill_count ≤ max_fills) }
+        ensures { result ≡ filled_by self n }
     {
         let mut session = self;
         let mut events = Events::none();
@@ -113,7 +113,7 @@ impl Session {
 
     // IssuerRofr with an authority, else Settling.
     fn phase_after(&self) -> u8
-        ensures { result ≡ phaseAfter self.now }
+        ensures { result ≡ phase_after self.now }
     {
         let p = self.params;
         let authority = p.rofr_authority;
@@ -134,8 +134,8 @@ struct Pair {
 
 // One pass for both sides, since every function that is handed the orders copies them.
 fn next_pair(orders: [Order; Session::MAX_ORDERS], n: usize) -> Pair
-    requires { n ≤ maxOrders }
-    ensures { result ≡ nextPair orders n }
+    requires { n ≤ max_orders }
+    ensures { result ≡ next_pair orders n }
 {
     let mut buy = 0;
     let mut sell = 0;
@@ -152,7 +152,7 @@ fn next_pair(orders: [Order; Session::MAX_ORDERS], n: usize) -> Pair
 
 // The first due order of the places up to i, from that of the places before i; the number of places where there is none.
 fn first_due(found: usize, due: bool, i: usize) -> usize
-    requires { i < maxOrders }
+    requires { i < max_orders }
     ensures { result ≡ cond (ltb found i) found (cond due i (i + 1)) }
 {
     if found < i {
@@ -166,7 +166,7 @@ fn first_due(found: usize, due: bool, i: usize) -> usize
 
 // On that side, with something of its lot left.
 fn is_due(o: Order, side: u8) -> bool
-    ensures { result ≡ dueOn side o }
+    ensures { result ≡ due_on side o }
 {
     both(o.side == side, 0 < o.alloc_left)
 }
@@ -179,7 +179,7 @@ fn smaller(a: u64, b: u64) -> u64
 
 fn less_left(o: Order, qty: u64) -> Order
     requires { qty ≤ o.alloc_left }
-    ensures { result ≡ lessLeft o qty }
+    ensures { result ≡ less_left o qty }
 {
     let mut less = o;
     less.alloc_left = o.alloc_left - qty;
@@ -188,7 +188,7 @@ fn less_left(o: Order, qty: u64) -> Order
 
 // Neither settled nor bought by the issuer: those come later.
 fn fill_of(buy: Order, sell: Order, qty: u64) -> Fill
-    ensures { result ≡ fillOf buy sell qty }
+    ensures { result ≡ fill_of buy sell qty }
 {
     let buyer = buy.owner;
     let seller = sell.owner;
@@ -203,8 +203,8 @@ fn fill_of(buy: Order, sell: Order, qty: u64) -> Fill
 
 // The line of a fill at a place, between two orders.
 fn fill_line(at: usize, b: usize, a: usize, qty: u64) -> Line
-    requires { (at < maxFills) × (b < maxOrders) × (a < maxOrders) }
-    ensures { result ≡ lineOf (FillAllocated at b a qty) }
+    requires { (at < max_fills) × (b < max_orders) × (a < max_orders) }
+    ensures { result ≡ line_of (FillAllocated at b a qty) }
 {
     let event = Event::FillAllocated {
         fill: at as u32,
@@ -216,8 +216,8 @@ fn fill_line(at: usize, b: usize, a: usize, qty: u64) -> Line
 }
 
 fn none_left(orders: [Order; Session::MAX_ORDERS], n: usize) -> bool
-    requires { n ≤ maxOrders }
-    ensures { result ≡ every (λ i. eqb (orderIn orders i).alloc_left 0) n }
+    requires { n ≤ max_orders }
+    ensures { result ≡ every (λ i. eqb (order_in orders i).alloc_left 0) n }
 {
     let mut i = 0;
     while i < n {

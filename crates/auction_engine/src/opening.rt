@@ -4,11 +4,11 @@ ghost use Rattle.std.specs.Int.Signed.{lt_z, le_z};
 ghost use Rattle.laws.specs.Search.{some};
 ghost use Rattle.laws.specs.Lists.{same};
 ghost use Rattle.laws.specs.Checks.{unless, ◌then◌};
-ghost use Rattle.clock.specs.Clock.{sumFits};
-ghost use Rattle.credit_math.specs.Limits.{maxOrders};
-ghost use Rattle.book.specs.Book.{orderIn, noWallet};
-ghost use Rattle.auction_engine.specs.Opening.{headerRefusal, rowRefusal, orderRefusal};
-ghost use Rattle.auction_engine.specs.Changes.{orderChange};
+ghost use Rattle.clock.specs.Clock.{sum_fits};
+ghost use Rattle.credit_math.specs.Limits.{max_orders};
+ghost use Rattle.book.specs.Book.{order_in, no_wallet};
+ghost use Rattle.auction_engine.specs.Opening.{header_refusal, row_refusal, order_refusal};
+ghost use Rattle.auction_engine.specs.Changes.{order_change};
 
 use crate::Session;
 use crate::changes::Change;
@@ -19,7 +19,7 @@ use laws::checks::{both, either, first_of, unless};
 
 // 4 a field outside its values; 5 an invalid schedule; 6 no cash cap.
 pub fn header_refusal(p: Params, g: Given, cover: Cover) -> u8
-    ensures { result ≡ headerRefusal p g cover }
+    ensures { result ≡ header_refusal p g cover }
 {
     let reserve = unless(!both(p.forced, 0 < g.reserve), refusals::BAD_FIELD);
     let policy = unless(g.policy <= 3, refusals::BAD_FIELD);
@@ -32,8 +32,8 @@ pub fn header_refusal(p: Params, g: Given, cover: Cover) -> u8
 fn schedule_refusal(p: Params) -> u8
     ensures { result ≡ unless (lt_z p.reveal_end p.settle_deadline) 5
         then unless (le_z (pos 0) p.rofr_window) 5
-        then unless (not (same p.rofr_authority noWallet) || le_z p.rofr_window (pos 0)) 5
-        then unless (sumFits p.reveal_end p.rofr_window) 5
+        then unless (not (same p.rofr_authority no_wallet) || le_z p.rofr_window (pos 0)) 5
+        then unless (sum_fits p.reveal_end p.rofr_window) 5
         then unless (lt_z (p.reveal_end +ℤ p.rofr_window) p.settle_deadline) 5
         then unless (leb 2 p.min_reveals) 5
         then unless (ltb 0 p.max_cash) 6 }
@@ -57,7 +57,7 @@ fn schedule_refusal(p: Params) -> u8
 
 // The end of the issuer's window fits and is before the deadline; two reveals at least; then the cash cap.
 fn end_refusal(p: Params) -> u8
-    ensures { result ≡ unless (sumFits p.reveal_end p.rofr_window) 5
+    ensures { result ≡ unless (sum_fits p.reveal_end p.rofr_window) 5
         then unless (lt_z (p.reveal_end +ℤ p.rofr_window) p.settle_deadline) 5
         then unless (leb 2 p.min_reveals) 5
         then unless (ltb 0 p.max_cash) 6 }
@@ -75,7 +75,7 @@ fn end_refusal(p: Params) -> u8
 
 // What refuses the row by itself; 7 seventeenth; 8 owner seen.
 pub fn order_refusal(s: &Session, cover: Cover, row: Row) -> u8
-    ensures { result ≡ orderRefusal s.now cover row }
+    ensures { result ≡ order_refusal s.now cover row }
 {
     let full = unless(s.order_count < Session::MAX_ORDERS, refusals::ORDERS_FULL);
     let refusal = first_of(row_refusal(cover, row), full);
@@ -92,7 +92,7 @@ pub fn order_refusal(s: &Session, cover: Cover, row: Row) -> u8
 
 // 4 side; 6 escrow 0, revealed with limit or qty 0, unrevealed with either not 0; 31 uncovered.
 pub fn row_refusal(cover: Cover, row: Row) -> u8
-    ensures { result ≡ rowRefusal cover row }
+    ensures { result ≡ row_refusal cover row }
 {
     let side = unless(row.side <= 1, refusals::BAD_FIELD);
     let nothing = unless(0 < row.escrowed, refusals::ZERO_FIGURE);
@@ -112,8 +112,8 @@ fn shows_right(row: Row) -> bool
 }
 
 fn owner_seen(orders: [Order; Session::MAX_ORDERS], n: usize, owner: [u8; 32]) -> bool
-    requires { n ≤ maxOrders }
-    ensures { result ≡ some (λ i. same (orderIn orders i).owner owner) n }
+    requires { n ≤ max_orders }
+    ensures { result ≡ some (λ i. same (order_in orders i).owner owner) n }
 {
     let mut i = 0;
     while i < n {
@@ -129,7 +129,7 @@ fn owner_seen(orders: [Order; Session::MAX_ORDERS], n: usize, owner: [u8; 32]) -
 
 // What one order more changes, or the number that refuses it.
 pub(crate) fn order_change(s: &Session, cover: Cover, row: Row) -> Change
-    ensures { result ≡ orderChange s.now cover row }
+    ensures { result ≡ order_change s.now cover row }
 {
     let refusal = order_refusal(s, cover, row);
     let mut c = s.unchanged(refusal);

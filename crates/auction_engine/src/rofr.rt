@@ -3,12 +3,12 @@ ghost use Rattle.std.specs.Prelude.{◌≡◌, true, not, ◌+◌, ◌-◌, ◌^
 ghost use Rattle.std.specs.Int.Signed.{lt_z};
 ghost use Rattle.laws.specs.Lists.{same};
 ghost use Rattle.laws.specs.Checks.{unless, ◌then◌};
-ghost use Rattle.book.specs.Limits.{maxFills};
-ghost use Rattle.auction_engine.specs.Session.{fillAt, rofrEnd};
+ghost use Rattle.book.specs.Limits.{max_fills};
+ghost use Rattle.auction_engine.specs.Session.{fill_at, rofr_end};
 ghost use Rattle.auction_engine.specs.Call as call;
-ghost use Rattle.auction_engine.specs.Rofr.{exerciseEffect};
+ghost use Rattle.auction_engine.specs.Rofr.{exercise_effect};
 ghost use Rattle.auction_engine.specs.Engine.{refusal, answer};
-ghost use Rattle.auction_engine.specs.Changes.{changeOf};
+ghost use Rattle.auction_engine.specs.Changes.{change_of};
 
 use crate::changes::Change;
 use crate::{Answer, Session};
@@ -44,7 +44,7 @@ impl Session {
 
     // Refused for sure by its phase or its window; else undecided.
     pub(crate) fn exercise_change(&self, now: i64, issuer: [u8; 32], fill: u32, qty: u64) -> Change
-        ensures { result ≡ changeOf self.now (call.exercise now issuer fill qty) }
+        ensures { result ≡ change_of self.now (call.exercise now issuer fill qty) }
     {
         if both(
             crate::admits(self.phase, crate::EXERCISE),
@@ -82,11 +82,11 @@ impl Session {
 
     // 21 no fill, or already rofr or settled; 22 qty above the fill.
     fn take_refusal(&self, at: usize, qty: u64) -> u8
-        requires { self.now.fill_count ≤ maxFills }
+        requires { self.now.fill_count ≤ max_fills }
         ensures { result ≡ unless (ltb at self.now.fill_count) 21
-            then unless (not (fillAt self.now at).rofr) 21
-            then unless (not (fillAt self.now at).settled) 21
-            then unless (leb qty (fillAt self.now at).qty) 22 }
+            then unless (not (fill_at self.now at).rofr) 21
+            then unless (not (fill_at self.now at).settled) 21
+            then unless (leb qty (fill_at self.now at).qty) 22 }
     {
         if self.fill_count <= at {
             return refusals::NO_FILL;
@@ -101,8 +101,8 @@ impl Session {
 
     // The fill is split: the issuer has qty of it, in a fill of its own.
     fn with_purchase(self, issuer: [u8; 32], at: usize, qty: u64) -> Session
-        requires { (at < maxFills) × (self.fill_count < maxFills) × (qty ≤ (fillAt self at).qty) }
-        ensures { result ≡ exerciseEffect self issuer at qty }
+        requires { (at < max_fills) × (self.fill_count < max_fills) × (qty ≤ (fill_at self at).qty) }
+        ensures { result ≡ exercise_effect self issuer at qty }
     {
         let mut fills = self.fills;
         let f = fills[at];
@@ -128,7 +128,7 @@ impl Session {
 
     // Before the end of the issuer's window.
     fn before_rofr_end(&self, now: i64) -> bool
-        ensures { result ≡ lt_z now (rofrEnd self.now) }
+        ensures { result ≡ lt_z now (rofr_end self.now) }
     {
         let p = self.params;
         clock::before_sum(now, p.reveal_end, p.rofr_window)
@@ -151,7 +151,7 @@ impl Session {
     }
 
     pub(crate) fn close_change(&self, now: i64, caller: [u8; 32]) -> Change
-        ensures { result ≡ changeOf self.now (call.close now caller) }
+        ensures { result ≡ change_of self.now (call.close now caller) }
     {
         let refusal = self.close_refusal(now, caller);
         if refusal != 0 {

@@ -2,15 +2,15 @@
 ghost use Rattle.std.specs.Prelude.{◌≡◌, true, not, ◌&&◌, ◌||◌, ◌<◌, ◌≤◌, ltb, leb, eqb};
 ghost use Rattle.laws.specs.Lists.{same};
 ghost use Rattle.laws.specs.Checks.{unless, ◌then◌};
-ghost use Rattle.credit_math.specs.Limits.{maxOrders};
-ghost use Rattle.book.specs.Book.{noInvestor};
-ghost use Rattle.events.specs.Events.{eventPair};
-ghost use Rattle.auction_engine.specs.Session.{orderAt};
-ghost use Rattle.auction_engine.specs.Screening.{exclusionOf, screenedAs, screenLines};
+ghost use Rattle.credit_math.specs.Limits.{max_orders};
+ghost use Rattle.book.specs.Book.{no_investor};
+ghost use Rattle.events.specs.Events.{event_pair};
+ghost use Rattle.auction_engine.specs.Session.{order_at};
+ghost use Rattle.auction_engine.specs.Screening.{exclusion_of, screened_as, screen_lines};
 ghost use Rattle.auction_engine.specs.Engine.{answer};
-ghost use Rattle.auction_engine.specs.Changes.{placeOf, changeOf};
+ghost use Rattle.auction_engine.specs.Changes.{place_of, change_of};
 ghost use Rattle.auction_engine.specs.Call as call;
-ghost use Rattle.auction_engine.specs.Call.{screenKind, admits, inWindow};
+ghost use Rattle.auction_engine.specs.Call.{screen_kind, admits, in_window};
 
 use crate::changes::Change;
 use crate::{Answer, Session};
@@ -44,7 +44,7 @@ impl Session {
         has_id: bool,
         id: [u8; 16],
     ) -> Change
-        ensures { result ≡ changeOf self.now (call.screen now order side verdict has_id id) }
+        ensures { result ≡ change_of self.now (call.screen now order side verdict has_id id) }
     {
         let argument = arguments_refusal(side, verdict, has_id, id);
         let early = first_of(
@@ -70,7 +70,7 @@ impl Session {
 
     // The order at a place; the first, where the array has no such place.
     fn order_at(&self, i: usize) -> Order
-        ensures { result ≡ orderAt self.now (placeOf maxOrders i) }
+        ensures { result ≡ order_at self.now (place_of max_orders i) }
     {
         let orders = self.orders;
         if i < Session::MAX_ORDERS {
@@ -81,7 +81,7 @@ impl Session {
 
     // 11 outside the window; 10 the phase.
     fn screening_refusal(&self, now: i64) -> u8
-        ensures { result ≡ unless (inWindow self.now now) 11 then unless (admits self.now.phase screenKind) 10 }
+        ensures { result ≡ unless (in_window self.now now) 11 then unless (admits self.now.phase screen_kind) 10 }
     {
         let window = unless(self.in_window(now), refusals::OUTSIDE_WINDOW);
         let phase = unless(
@@ -93,11 +93,11 @@ impl Session {
 
     // 12 no such order; 13 side; 14 not revealed; 15 screened.
     fn order_refusal(&self, i: usize, side: u8, o: Order) -> u8
-        requires { (self.now.order_count ≤ maxOrders) × (i < maxOrders → o ≡ orderAt self.now i) }
+        requires { (self.now.order_count ≤ max_orders) × (i < max_orders → o ≡ order_at self.now i) }
         ensures { result ≡ unless (ltb i self.now.order_count) 12
-            then unless (eqb (orderAt self.now i).side side) 13
-            then unless (orderAt self.now i).revealed 14
-            then unless (not (orderAt self.now i).screened) 15 }
+            then unless (eqb (order_at self.now i).side side) 13
+            then unless (order_at self.now i).revealed 14
+            then unless (not (order_at self.now i).screened) 15 }
     {
         if self.order_count <= i {
             return refusals::NO_ORDER;
@@ -110,7 +110,7 @@ impl Session {
 
     // A verdict other than 0 is the exclusion; with verdict 0 and an id, the investor's other orders decide.
     fn exclusion_of(&self, i: usize, verdict: u8, has_id: bool, id: [u8; 16]) -> u8
-        ensures { result ≡ exclusionOf self.now i verdict has_id id }
+        ensures { result ≡ exclusion_of self.now i verdict has_id id }
     {
         if verdict != 0 {
             return verdict;
@@ -134,7 +134,7 @@ impl Session {
 pub fn arguments_refusal(side: u8, verdict: u8, has_id: bool, id: [u8; 16]) -> u8
     ensures { result ≡ unless (leb side 1) 4
         then unless (leb verdict 6) 4
-        then unless (has_id || same id noInvestor) 4
+        then unless (has_id || same id no_investor) 4
         then unless (has_id || not (eqb side 0 && eqb verdict 0)) 4 }
 {
     let sides = unless(side <= 1, refusals::BAD_FIELD);
@@ -149,7 +149,7 @@ pub fn arguments_refusal(side: u8, verdict: u8, has_id: bool, id: [u8; 16]) -> u
 }
 
 fn as_screened(o: Order, exclusion: u8, has_id: bool, id: [u8; 16]) -> Order
-    ensures { result ≡ screenedAs o exclusion has_id id }
+    ensures { result ≡ screened_as o exclusion has_id id }
 {
     let mut screened = o;
     screened.screened = true;
@@ -163,7 +163,7 @@ fn as_screened(o: Order, exclusion: u8, has_id: bool, id: [u8; 16]) -> Order
 
 // The change of phase on the first screen, then the screen.
 fn screen_events(from: u8, order: u8, exclusion: u8) -> EventPair
-    ensures { result ≡ eventPair (screenLines from order exclusion) }
+    ensures { result ≡ event_pair (screen_lines from order exclusion) }
 {
     let screened = Event::OrderScreened { order, exclusion };
     if from == crate::CLEARING {

@@ -1,20 +1,20 @@
 // The calls `settle`, `skip_fill`, `finish` and `expire`. Cash and notes move on the chain.
 ghost use Rattle.std.specs.Prelude.{◌≡◌, true, false, cond, not, [], ◌∷◌, ◌+◌, ◌-◌, ◌^◌, ◌<◌, ◌≤◌, min, ltb, eqb};
-ghost use Rattle.laws.specs.Sums.{sumBelow, only};
+ghost use Rattle.laws.specs.Sums.{sum_below, only};
 ghost use Rattle.wide.specs.Value.{value};
 ghost use Rattle.laws.specs.Search.{every};
-ghost use Rattle.laws.specs.Bits.{isSet, withBit};
+ghost use Rattle.laws.specs.Bits.{is_set, with_bit};
 ghost use Rattle.laws.specs.Checks.{unless, ◌then◌};
-ghost use Rattle.book.specs.Limits.{maxFills};
-ghost use Rattle.book.specs.Book.{fillIn};
-ghost use Rattle.disclosure.specs.Disclosure.{maxBand};
-ghost use Rattle.events.specs.Events.{eventPair};
+ghost use Rattle.book.specs.Limits.{max_fills};
+ghost use Rattle.book.specs.Book.{fill_in};
+ghost use Rattle.disclosure.specs.Disclosure.{max_band};
+ghost use Rattle.events.specs.Events.{event_pair};
 ghost use Rattle.events.specs.declared.Event.TheVariants.{FillSettled};
-ghost use Rattle.auction_engine.specs.Session.{orderAt, fillAt};
+ghost use Rattle.auction_engine.specs.Session.{order_at, fill_at};
 ghost use Rattle.auction_engine.specs.Call as call;
-ghost use Rattle.auction_engine.specs.Settlement.{asSettled, movedVolume, printOf};
+ghost use Rattle.auction_engine.specs.Settlement.{as_settled, moved_volume, print_of};
 ghost use Rattle.auction_engine.specs.Engine.{refusal, answer};
-ghost use Rattle.auction_engine.specs.Changes.{placeOf, writing, changeOf};
+ghost use Rattle.auction_engine.specs.Changes.{place_of, writing, change_of};
 
 use crate::changes::Change;
 use crate::{Answer, Session};
@@ -35,7 +35,7 @@ impl Session {
     }
 
     pub(crate) fn settle_change(&self, fill: u32) -> Change
-        ensures { result ≡ changeOf self.now (call.settle fill) }
+        ensures { result ≡ change_of self.now (call.settle fill) }
     {
         let phase = unless(
             crate::admits(self.phase, crate::SETTLE),
@@ -58,7 +58,7 @@ impl Session {
 
     // The fill at a place; the first, where the array has no such place.
     fn fill_at(&self, at: usize) -> Fill
-        ensures { result ≡ fillAt self.now (placeOf maxFills at) }
+        ensures { result ≡ fill_at self.now (place_of max_fills at) }
     {
         let fills = self.fills;
         if at < Session::MAX_FILLS {
@@ -69,8 +69,8 @@ impl Session {
 
     // 21 no fill; 23 settled.
     fn fill_refusal(&self, at: usize, f: Fill) -> u8
-        requires { (self.now.fill_count ≤ maxFills) × (at < maxFills → f ≡ fillAt self.now at) }
-        ensures { result ≡ unless (ltb at self.now.fill_count) 21 then unless (not (fillAt self.now at).settled) 23 }
+        requires { (self.now.fill_count ≤ max_fills) × (at < max_fills → f ≡ fill_at self.now at) }
+        ensures { result ≡ unless (ltb at self.now.fill_count) 21 then unless (not (fill_at self.now at).settled) 23 }
     {
         if self.fill_count <= at {
             return refusals::NO_FILL;
@@ -80,7 +80,7 @@ impl Session {
 
     // A fill at a place, settled.
     fn fill_change(&self, at: usize, f: Fill, events: EventPair) -> Change
-        ensures { result ≡ writing self.now false 0 (orderAt self.now 0) at (asSettled f) 0 events }
+        ensures { result ≡ writing self.now false 0 (order_at self.now 0) at (as_settled f) 0 events }
     {
         let mut settled = f;
         settled.settled = true;
@@ -99,7 +99,7 @@ impl Session {
     }
 
     pub(crate) fn skip_change(&self, now: i64, fill: u32, reason: u8) -> Change
-        ensures { result ≡ changeOf self.now (call.skip now fill reason) }
+        ensures { result ≡ change_of self.now (call.skip now fill reason) }
     {
         let argument = unless(reason <= 6, refusals::BAD_FIELD);
         let phase = unless(
@@ -136,7 +136,7 @@ impl Session {
     }
 
     pub(crate) fn finish_change(&self, now: i64) -> Change
-        ensures { result ≡ changeOf self.now (call.finish now) }
+        ensures { result ≡ change_of self.now (call.finish now) }
     {
         let refusal = self.finish_refusal(now);
         if refusal != 0 {
@@ -170,8 +170,8 @@ impl Session {
 
     // What the finish prints, as the policy discloses it.
     fn print_of(&self) -> Print
-        requires { (self.now.fill_count ≤ maxFills) × (self.now.given.band_bps ≤ maxBand) × (self.now.given.policy ≤ 3) × (movedVolume self.now < 2 ^ 64) }
-        ensures { result ≡ printOf self.now }
+        requires { (self.now.fill_count ≤ max_fills) × (self.now.given.band_bps ≤ max_band) × (self.now.given.policy ≤ 3) × (moved_volume self.now < 2 ^ 64) }
+        ensures { result ≡ print_of self.now }
     {
         let p = self.params;
         let g = self.given;
@@ -207,7 +207,7 @@ impl Session {
     }
 
     pub(crate) fn expire_change(&self, now: i64) -> Change
-        ensures { result ≡ changeOf self.now (call.expire now) }
+        ensures { result ≡ change_of self.now (call.expire now) }
     {
         let refusal = self.expire_refusal(now);
         if refusal != 0 {
@@ -243,7 +243,7 @@ impl Session {
 
 // Nothing is said of a fill that the issuer took whole.
 fn settle_events(f: Fill, fill: u32, price: u64) -> EventPair
-    ensures { result ≡ eventPair (cond (eqb f.qty 0) [] (FillSettled fill f.qty price ∷ [])) }
+    ensures { result ≡ event_pair (cond (eqb f.qty 0) [] (FillSettled fill f.qty price ∷ [])) }
 {
     if f.qty == 0 {
         return EventPair::none();
@@ -263,15 +263,15 @@ fn saturating_next(n: u32) -> u32
 }
 
 fn with_bit(word: u32, i: u32) -> u32
-    requires { i < maxFills }
-    ensures { result ≡ withBit word i }
+    requires { i < max_fills }
+    ensures { result ≡ with_bit word i }
 {
     word | (1 << i)
 }
 
 fn all_settled(fills: [Fill; Session::MAX_FILLS], m: usize) -> bool
-    requires { m ≤ maxFills }
-    ensures { result ≡ every (λ i. (fillIn fills i).settled) m }
+    requires { m ≤ max_fills }
+    ensures { result ≡ every (λ i. (fill_in fills i).settled) m }
 {
     let mut i = 0;
     while i < m {
@@ -286,8 +286,8 @@ fn all_settled(fills: [Fill; Session::MAX_FILLS], m: usize) -> bool
 
 // What moved, in two words: the source checks the sum at 64 bits.
 fn moved_volume(fills: [Fill; Session::MAX_FILLS], m: usize, skipped: u32) -> Wide
-    requires { m ≤ maxFills }
-    ensures { value result ≡ sumBelow (λ i. only (not (isSet skipped i)) (fillIn fills i).qty) m }
+    requires { m ≤ max_fills }
+    ensures { value result ≡ sum_below (λ i. only (not (is_set skipped i)) (fill_in fills i).qty) m }
 {
     let mut sum = wide::of_word(0);
     let mut i = 0;
@@ -301,8 +301,8 @@ fn moved_volume(fills: [Fill; Session::MAX_FILLS], m: usize, skipped: u32) -> Wi
 
 // What of a fill has moved: nothing, where it was skipped.
 fn moved_qty(f: Fill, skipped: u32, i: usize) -> u64
-    requires { i < maxFills }
-    ensures { result ≡ only (not (isSet skipped i)) f.qty }
+    requires { i < max_fills }
+    ensures { result ≡ only (not (is_set skipped i)) f.qty }
 {
     if investors::participants::is_skipped(skipped, i as u32) {
         return 0;

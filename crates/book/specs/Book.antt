@@ -5,23 +5,23 @@ use Rattle.book.specs.declared.Fill.{Fill}
 use Rattle.book.specs.declared.Row.{Row}
 
 -- sides: Buy 0, Sell 1
-abbrev pub buySide : ℕ
-buySide = 0
+abbrev pub buy_side : ℕ
+buy_side = 0
 
-abbrev pub sellSide : ℕ
-sellSide = 1
+abbrev pub sell_side : ℕ
+sell_side = 1
 
 -- 'rofr_authority 32 (zeros: none)'
-abbrev pub noWallet : List ℕ
-noWallet = replicate 32 0
+abbrev pub no_wallet : List ℕ
+no_wallet = replicate 32 0
 
 -- '`NO_INVESTOR` is taken as sixteen zero bytes'
-abbrev pub noInvestor : List ℕ
-noInvestor = replicate 16 0
+abbrev pub no_investor : List ℕ
+no_investor = replicate 16 0
 
 -- what stands past the end of an array, by the language: array fields are then empty
-abbrev pub noOrder : Order
-noOrder =
+abbrev pub no_order : Order
+no_order =
     record {
       owner = [];
       side = 0;
@@ -36,14 +36,14 @@ noOrder =
       investor_id = [];
     }
 
-abbrev pub noFill : Fill
-noFill = record { buyer = []; seller = []; qty = 0; rofr = false; settled = false }
+abbrev pub no_fill : Fill
+no_fill = record { buyer = []; seller = []; qty = 0; rofr = false; settled = false }
 
-abbrev pub orderIn : List Order → ℕ → Order
-orderIn orders i = get_or orders i noOrder
+abbrev pub order_in : List Order → ℕ → Order
+order_in orders i = get_or orders i no_order
 
-abbrev pub fillIn : List Fill → ℕ → Fill
-fillIn fills i = get_or fills i noFill
+abbrev pub fill_in : List Fill → ℕ → Fill
+fill_in fills i = get_or fills i no_fill
 
 -- an order as a file lists it: not screened, with no lot and no id
 abbrev pub listed : Row → Order
@@ -59,7 +59,7 @@ listed row =
       alloc_left = 0;
       screened = false;
       eligible = false;
-      investor_id = noInvestor;
+      investor_id = no_investor;
     }
 
 -- an order with other values in the fields that calls write
@@ -80,15 +80,15 @@ reorder o a left screened eligible id =
     }
 
 -- unused places of the two arrays
-abbrev pub emptyOrder : Order
-emptyOrder = listed (record { owner = noWallet; side = 0; escrowed = 0; revealed = false; limit = 0; qty = 0 })
+abbrev pub empty_order : Order
+empty_order = listed (record { owner = no_wallet; side = 0; escrowed = 0; revealed = false; limit = 0; qty = 0 })
 
-abbrev pub emptyFill : Fill
-emptyFill = record { buyer = noWallet; seller = noWallet; qty = 0; rofr = false; settled = false }
+abbrev pub empty_fill : Fill
+empty_fill = record { buyer = no_wallet; seller = no_wallet; qty = 0; rofr = false; settled = false }
 
 -- `is_live`: takes part in the clear
-unfoldable pub isLive : Order → Bool
-isLive o = o.revealed && o.screened && o.eligible
+unfoldable pub is_live : Order → Bool
+is_live o = o.revealed && o.screened && o.eligible
 
-abbrev pub isBuy : Order → Bool
-isBuy o = eqb o.side buySide
+abbrev pub is_buy : Order → Bool
+is_buy o = eqb o.side buy_side

@@ -1,32 +1,32 @@
 -- `compute_clear` from its list `orders` on, with the two checks before it.
 use Rattle.std.specs.Prelude.{Bool, true, false, cond, not, ◌&&◌, List, [], ◌∷◌, map, ℕ, ◌^◌, min, ltb, leb, length, set, replicate}
 use Rattle.laws.specs.Lists.{table, keep}
-use Rattle.credit_math.specs.Limits.{maxOrders}
-use Rattle.credit_math.specs.Price.{Found, refused, failed, cross, findUniformClearPrice}
+use Rattle.credit_math.specs.Limits.{max_orders}
+use Rattle.credit_math.specs.Price.{Found, refused, failed, cross, find_uniform_clear_price}
 use Rattle.credit_math.specs.ProRata.{lots}
-use Rattle.book.specs.Book.{orderIn, isLive, isBuy}
+use Rattle.book.specs.Book.{order_in, is_live, is_buy}
 use Rattle.book.specs.declared.Order.{Order}
 use Rattle.book.specs.declared.Params.{Params}
 use Rattle.book.specs.declared.Given.{Given}
 use Rattle.book.specs.declared.clear.Outcome.{Outcome}
 
 -- reasons of a failed clear: TooFewReveals 1, MarkUnavailable 3; NoCross 2 is the price search's
-abbrev pub tooFewReveals : ℕ
-tooFewReveals = 1
+abbrev pub too_few_reveals : ℕ
+too_few_reveals = 1
 
-abbrev pub markUnavailable : ℕ
-markUnavailable = 3
+abbrev pub mark_unavailable : ℕ
+mark_unavailable = 3
 
 -- 17: a volume above 64 bits
-abbrev pub mathOverflow : ℕ
-mathOverflow = 17
+abbrev pub math_overflow : ℕ
+math_overflow = 17
 
 -- a clear that fails, and one that is refused: no figure, no lot
-abbrev pub failedBy : ℕ → Outcome
-failedBy reason = record { refusal = 0; failed = reason; price = 0; volume = 0; lots = replicate maxOrders 0 }
+abbrev pub failed_by : ℕ → Outcome
+failed_by reason = record { refusal = 0; failed = reason; price = 0; volume = 0; lots = replicate max_orders 0 }
 
-abbrev pub refusedWith : ℕ → Outcome
-refusedWith number = record { refusal = number; failed = 0; price = 0; volume = 0; lots = replicate maxOrders 0 }
+abbrev pub refused_with : ℕ → Outcome
+refused_with number = record { refusal = number; failed = 0; price = 0; volume = 0; lots = replicate max_orders 0 }
 
 -- values put at their places, one after the other
 unfoldable pub stored : (places values into : List ℕ) → List ℕ
@@ -36,49 +36,49 @@ stored (i ∷ places) (v ∷ values) into = stored places values (set into i v)
 
 module _ (orders : List Order) (n : ℕ) where
   -- the list `orders`: the numbers of the live ones among the first n (a count above the limit is read as the limit)
-  unfoldable pub liveOrders : List ℕ
-  liveOrders = keep (λ i. isLive (orderIn orders i)) (table (λ i. i) (min n maxOrders))
+  unfoldable pub live_orders : List ℕ
+  live_orders = keep (λ i. is_live (order_in orders i)) (table (λ i. i) (min n max_orders))
 
   -- the price search over them
   unfoldable pub searched : (reserve reference : ℕ) → Found
   searched reserve reference =
-      findUniformClearPrice (map (λ i. isBuy (orderIn orders i)) liveOrders) (map (λ i. (orderIn orders i).limit) liveOrders)
-      (map (λ i. (orderIn orders i).qty) liveOrders) reserve reference
+      find_uniform_clear_price (map (λ i. is_buy (order_in orders i)) live_orders) (map (λ i. (order_in orders i).limit) live_orders)
+      (map (λ i. (order_in orders i).qty) live_orders) reserve reference
 
   -- `in_buy`, `in_sell`: an order trades at p on that side
-  unfoldable pub tradesAt : (buys : Bool) (p i : ℕ) → Bool
-  tradesAt buys p i =
-      cond buys (isBuy (orderIn orders i) && leb p (orderIn orders i).limit) (not (isBuy (orderIn orders i)) && leb (orderIn orders i).limit p)
+  unfoldable pub trades_at : (buys : Bool) (p i : ℕ) → Bool
+  trades_at buys p i =
+      cond buys (is_buy (order_in orders i) && leb p (order_in orders i).limit) (not (is_buy (order_in orders i)) && leb (order_in orders i).limit p)
 
   -- the live orders of a side that trade at p
-  unfoldable pub sideOrders : (buys : Bool) (p : ℕ) → List ℕ
-  sideOrders buys p = keep (tradesAt buys p) liveOrders
+  unfoldable pub side_orders : (buys : Bool) (p : ℕ) → List ℕ
+  side_orders buys p = keep (trades_at buys p) live_orders
 
   -- a side's lots: pro-rata of the volume over their quantities, ids being order numbers
-  unfoldable pub sideLots : (buys : Bool) (p v : ℕ) → List ℕ
-  sideLots buys p v = lots (sideOrders buys p) (map (λ i. (orderIn orders i).qty) (sideOrders buys p)) v
+  unfoldable pub side_lots : (buys : Bool) (p v : ℕ) → List ℕ
+  side_lots buys p v = lots (side_orders buys p) (map (λ i. (order_in orders i).qty) (side_orders buys p)) v
 
   -- `allocations`, by order number: 'An order's lot is what `compute_clear` allots it by pro-rata, otherwise 0'
   unfoldable pub allocations : (p v : ℕ) → List ℕ
   allocations p v =
-      stored (sideOrders false p) (sideLots false p v) (stored (sideOrders true p) (sideLots true p v) (replicate maxOrders 0))
+      stored (side_orders false p) (side_lots false p v) (stored (side_orders true p) (side_lots true p v) (replicate max_orders 0))
 
   -- 17 where the volume takes more than 64 bits, before any lot is computed
   unfoldable pub allotted : Found → Outcome
-  allotted (refused number) = refusedWith number
-  allotted (failed reason) = failedBy reason
+  allotted (refused number) = refused_with number
+  allotted (failed reason) = failed_by reason
   allotted (cross p v) =
       cond (ltb v (2 ^ 64))
       (record { refusal = 0; failed = 0; price = p; volume = v; lots = allocations p v })
-      (refusedWith mathOverflow)
+      (refused_with math_overflow)
 
 -- the reserve: 'reserve 8 (0 if forced)'
-unfoldable pub floorOf : Params → Given → ℕ
-floorOf p g = cond p.forced 0 g.reserve
+unfoldable pub floor_of : Params → Given → ℕ
+floor_of p g = cond p.forced 0 g.reserve
 
 -- 'TooFewReveals 1 (live orders below min_reveals), MarkUnavailable 3 (unforced, mark 0), NoCross 2, checked so', then 17
-unfoldable pub computeClear : Params → Given → List Order → ℕ → Outcome
-computeClear p g orders n =
-    cond (ltb (length (liveOrders orders n)) p.min_reveals) (failedBy tooFewReveals)
-    (cond (not p.forced && not g.mark) (failedBy markUnavailable)
-    (allotted orders n (searched orders n (floorOf p g) g.reference)))
+unfoldable pub compute_clear : Params → Given → List Order → ℕ → Outcome
+compute_clear p g orders n =
+    cond (ltb (length (live_orders orders n)) p.min_reveals) (failed_by too_few_reveals)
+    (cond (not p.forced && not g.mark) (failed_by mark_unavailable)
+    (allotted orders n (searched orders n (floor_of p g) g.reference)))

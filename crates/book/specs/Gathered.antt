@@ -1,9 +1,9 @@
 -- What the private functions hand each other: arrays of which the first `count` places hold the lists of Clear.antt.
 use Rattle.std.specs.Prelude.{◌≡◌, Bool, List, map, ℕ, ◌≤◌, ◌<◌, length, take, get_or}
-use Rattle.credit_math.specs.Limits.{maxOrders}
+use Rattle.credit_math.specs.Limits.{max_orders}
 use Rattle.credit_math.specs.Price.{buy, sell, cross}
-use Rattle.book.specs.Book.{orderIn, isBuy}
-use Rattle.book.specs.Clear.{stored, liveOrders, searched, sideOrders, sideLots, allocations, allotted}
+use Rattle.book.specs.Book.{order_in, is_buy}
+use Rattle.book.specs.Clear.{stored, live_orders, searched, side_orders, side_lots, allocations, allotted}
 use Rattle.book.specs.declared.Order.{Order}
 use Rattle.book.specs.declared.clear.Live.{Live}
 use Rattle.book.specs.declared.clear.Side.{Side}
@@ -11,33 +11,33 @@ use Rattle.book.specs.declared.clear.Outcome.{Outcome}
 
 module _ (orders : List Order) (n : ℕ) where
   -- sides, limits and quantities of the list `orders`
-  abbrev pub buysOf : List Bool
-  buysOf = map (λ i. isBuy (orderIn orders i)) (liveOrders orders n)
+  abbrev pub buys_of : List Bool
+  buys_of = map (λ i. is_buy (order_in orders i)) (live_orders orders n)
 
-  abbrev pub limitsOf : List ℕ
-  limitsOf = map (λ i. (orderIn orders i).limit) (liveOrders orders n)
+  abbrev pub limits_of : List ℕ
+  limits_of = map (λ i. (order_in orders i).limit) (live_orders orders n)
 
-  abbrev pub qtysOf : List ℕ
-  qtysOf = map (λ i. (orderIn orders i).qty) (liveOrders orders n)
+  abbrev pub qtys_of : List ℕ
+  qtys_of = map (λ i. (order_in orders i).qty) (live_orders orders n)
 
   -- the live orders, with their sides, limits and quantities
   pub record Gathered (l : Live) : Type 0 where
-    pub counted : l.count ≡ length (liveOrders orders n)
-    pub numbers : take l.count l.numbers ≡ liveOrders orders n
-    pub sides : take l.count l.is_buy ≡ buysOf
-    pub limits : take l.count l.limits ≡ limitsOf
-    pub qtys : take l.count l.qtys ≡ qtysOf
+    pub counted : l.count ≡ length (live_orders orders n)
+    pub numbers : take l.count l.numbers ≡ live_orders orders n
+    pub sides : take l.count l.is_buy ≡ buys_of
+    pub limits : take l.count l.limits ≡ limits_of
+    pub qtys : take l.count l.qtys ≡ qtys_of
 
   -- those of a side that trade at p, with their quantities
   pub record SideGathered (buys : Bool) (p : ℕ) (s : Side) : Type 0 where
-    pub counted : s.count ≡ length (sideOrders orders n buys p)
-    pub numbers : take s.count s.numbers ≡ sideOrders orders n buys p
-    pub qtys : take s.count s.qtys ≡ map (λ i. (orderIn orders i).qty) (sideOrders orders n buys p)
+    pub counted : s.count ≡ length (side_orders orders n buys p)
+    pub numbers : take s.count s.numbers ≡ side_orders orders n buys p
+    pub qtys : take s.count s.qtys ≡ map (λ i. (order_in orders i).qty) (side_orders orders n buys p)
 
   -- a volume that both sides have at p
   pub record Within (p v : ℕ) : Type 0 where
-    pub bought : v ≤ buy buysOf limitsOf qtysOf p
-    pub sold : v ≤ sell buysOf limitsOf qtysOf p
+    pub bought : v ≤ buy buys_of limits_of qtys_of p
+    pub sold : v ≤ sell buys_of limits_of qtys_of p
 
 -- the live orders of some book
 pub record FromBook (l : Live) : Type 0 where
@@ -47,8 +47,8 @@ pub record FromBook (l : Live) : Type 0 where
 
 -- n places of a book
 pub record Places (places : List ℕ) (n : ℕ) : Type 0 where
-  pub few : n ≤ maxOrders
-  pub inside : (i : ℕ) → i < n → get_or places i 0 < maxOrders
+  pub few : n ≤ max_orders
+  pub inside : (i : ℕ) → i < n → get_or places i 0 < max_orders
 
 -- what the functions answer, of whatever book the live orders are
 module _ (l : Live) where
@@ -58,7 +58,7 @@ module _ (l : Live) where
 
   -- a side's lots, stored
   abbrev pub Allotted : (buys : Bool) (p v : ℕ) (into out : List ℕ) → Type 0
-  Allotted buys p v into out = (orders : List Order) (n : ℕ) → Gathered orders n l → Within orders n p v → out ≡ stored (sideOrders orders n buys p) (sideLots orders n buys p v) into
+  Allotted buys p v into out = (orders : List Order) (n : ℕ) → Gathered orders n l → Within orders n p v → out ≡ stored (side_orders orders n buys p) (side_lots orders n buys p v) into
 
   -- both sides' lots
   abbrev pub Allocated : (p v : ℕ) (out : List ℕ) → Type 0

@@ -2,5 +2,5 @@
 use Rattle.std.specs.Prelude.{ℕ}
 
 -- at most 24 fills
-abbrev pub maxFills : ℕ
-maxFills = 24
+abbrev pub max_fills : ℕ
+max_fills = 24

@@ -1,8 +1,8 @@
 // `compute_clear`: the live orders gathered, the price, and the lots.
 ghost use Rattle.std.specs.Prelude.{◌≡◌, false, cond, not, ◌&&◌, min, leb, take, replicate};
 ghost use Rattle.wide.specs.Value.{value};
-ghost use Rattle.credit_math.specs.Limits.{maxOrders};
-ghost use Rattle.book.specs.Clear.{stored, floorOf, computeClear};
+ghost use Rattle.credit_math.specs.Limits.{max_orders};
+ghost use Rattle.book.specs.Clear.{stored, floor_of, compute_clear};
 ghost use Rattle.book.specs.Gathered.{Gathered, FromBook, Cleared, Priced, Allocated, Allotted, Trading, Places};
 
 use crate::{Given, Order, Params};
@@ -30,7 +30,7 @@ pub struct Outcome {
 
 // The live orders among the first n. A count above the limit is read as the limit.
 pub fn compute_clear(p: Params, g: Given, orders: [Order; MAX_ORDERS], n: usize) -> Outcome
-    ensures { result ≡ computeClear p g orders n }
+    ensures { result ≡ compute_clear p g orders n }
 {
     let live = live_orders(orders, n);
     let count = live.count as u64;
@@ -46,14 +46,14 @@ pub fn compute_clear(p: Params, g: Given, orders: [Order; MAX_ORDERS], n: usize)
 
 // The reserve that the clear goes by: none in a forced sale.
 pub fn floor_of(p: Params, g: Given) -> u64
-    ensures { result ≡ floorOf p g }
+    ensures { result ≡ floor_of p g }
 {
     if p.forced { 0 } else { g.reserve }
 }
 
 // Refused or failed: no price, and no lot.
 fn no_lots(refusal: u8, failed: u8) -> Outcome
-    ensures { result ≡ record { refusal = refusal; failed = failed; price = 0; volume = 0; lots = replicate maxOrders 0 } }
+    ensures { result ≡ record { refusal = refusal; failed = failed; price = 0; volume = 0; lots = replicate max_orders 0 } }
 {
     let lots: [u64; MAX_ORDERS] = [0; MAX_ORDERS];
     Outcome {
@@ -97,7 +97,7 @@ fn live_orders(orders: [Order; MAX_ORDERS], n: usize) -> Live
 }
 
 fn no_orders() -> Live
-    ensures { result ≡ record { numbers = replicate maxOrders 0; is_buy = replicate maxOrders false; limits = replicate maxOrders 0; qtys = replicate maxOrders 0; count = 0 } }
+    ensures { result ≡ record { numbers = replicate max_orders 0; is_buy = replicate max_orders false; limits = replicate max_orders 0; qtys = replicate max_orders 0; count = 0 } }
 {
     let numbers: [u64; MAX_ORDERS] = [0; MAX_ORDERS];
     let is_buy: [bool; MAX_ORDERS] = [false; MAX_ORDERS];
@@ -114,7 +114,7 @@ fn no_orders() -> Live
 
 // A count above the limit is read as the limit.
 pub fn at_most_orders(n: usize) -> usize
-    ensures { result ≡ min n maxOrders }
+    ensures { result ≡ min n max_orders }
 {
     if n < MAX_ORDERS { n } else { MAX_ORDERS }
 }

@@ -3,7 +3,7 @@
 
 ghost use Rattle.std.specs.Prelude.{◌≡◌, eqb};
 ghost use Rattle.laws.specs.Lists.{same};
-ghost use Rattle.book.specs.Book.{isLive, isBuy, listed, emptyOrder, emptyFill};
+ghost use Rattle.book.specs.Book.{is_live, is_buy, listed, empty_order, empty_fill};
 
 use credit_math::MAX_ORDERS;
 
@@ -100,7 +100,7 @@ impl Order {
 
     // An unused place of the order array.
     pub fn empty() -> Self
-        ensures { result ≡ emptyOrder }
+        ensures { result ≡ empty_order }
     {
         Order::listed(Row {
             owner: [0; 32],
@@ -114,7 +114,7 @@ impl Order {
 
     // Takes part in the clear.
     pub fn is_live(self) -> bool
-        ensures { result ≡ isLive self }
+        ensures { result ≡ is_live self }
     {
         if self.revealed {
             if self.screened {
@@ -129,7 +129,7 @@ impl Order {
 impl Fill {
     // An unused place of the fill array.
     pub fn empty() -> Self
-        ensures { result ≡ emptyFill }
+        ensures { result ≡ empty_fill }
     {
         Fill {
             buyer: [0; 32],

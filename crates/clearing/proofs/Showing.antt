@@ -6,20 +6,20 @@ use Prim.Native.Nat.{ℕ, ◌≤◌, ◌<◌}
 use lib.ListN.{length}
 use borrow.Author.Tests.{eq-eqb}
 use Rattle.octets.specs.declared.writing.Written.{Written}
-use Rattle.listing.specs.Lines.{maxRecord}
+use Rattle.listing.specs.Lines.{max_record}
 use Rattle.octets.specs.Writing.{written, Writes}
-use Rattle.octets.proofs.Answers.{answer-small}
+use Rattle.octets.proofs.Answers.{answer_small}
 use Rattle.session_file.specs.declared.parts.Cursor.{Cursor}
 use Rattle.session_file.specs.declared.parts.Part.{Part}
 use Rattle.session_file.specs.Parts.{PartPut}
-use Rattle.session_file.specs.PartSteps.{partsLeft}
-use Rattle.session_file.proofs.PartByPart.{parts-fewer}
+use Rattle.session_file.specs.PartSteps.{parts_left}
+use Rattle.session_file.proofs.PartByPart.{parts_fewer}
 
-pub showing-less : (input : List ℕ) {s : Cursor} {r : Part} {before left : List ℕ} → s.ended ≡ false → maxRecord ≤ length before → PartPut input s r before left
-    → partsLeft input r.cursor < partsLeft input s
-showing-less input {s} h room p = rw (p.cursor, eq-eqb _ 0 (p.fits room)) (parts-fewer input s h)
+pub showing_less : (input : List ℕ) {s : Cursor} {r : Part} {before left : List ℕ} → s.ended ≡ false → max_record ≤ length before → PartPut input s r before left
+    → parts_left input r.cursor < parts_left input s
+showing_less input {s} h room p = rw (p.cursor, eq-eqb _ 0 (p.fits room)) (parts_fewer input s h)
 
 -- what a writer says that it wrote lies within the buffer
-pub written-within : {text before left : List ℕ} {w : Written} → Writes text w before left → length left ≡ length before → w.len ≤ length left
+pub written_within : {text before left : List ℕ} {w : Written} → Writes text w before left → length left ≡ length before → w.len ≤ length left
 unfolding written
-written-within v same = rw same (answer-small v.answer).1
+written_within v same = rw same (answer_small v.answer).1

@@ -3,5 +3,5 @@ use Rattle.std.specs.Prelude.{Bool, ◌^◌, ltb, ℤ, ◌+ℤ◌}
 use Rattle.std.specs.Int.Signed.{mag}
 
 -- the sum is a signed 64-bit number: `mag` is n of n and of -(n + 1)
-unfoldable pub sumFits : ℤ → ℤ → Bool
-sumFits a b = ltb (mag (a +ℤ b)) (2 ^ 63)
+unfoldable pub sum_fits : ℤ → ℤ → Bool
+sum_fits a b = ltb (mag (a +ℤ b)) (2 ^ 63)

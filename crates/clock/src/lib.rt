@@ -3,7 +3,7 @@
 
 ghost use Rattle.std.specs.Prelude.{◌≡◌, ◌+ℤ◌};
 ghost use Rattle.std.specs.Int.Signed.{lt_z, le_z, mag};
-ghost use Rattle.clock.specs.Clock.{sumFits};
+ghost use Rattle.clock.specs.Clock.{sum_fits};
 
 pub fn before(a: i64, b: i64) -> bool
     ensures { result ≡ lt_z a b }
@@ -19,7 +19,7 @@ pub fn not_before(a: i64, b: i64) -> bool
 
 // Whether a + b is a signed 64-bit number.
 pub fn sum_fits(a: i64, b: i64) -> bool
-    ensures { result ≡ sumFits a b }
+    ensures { result ≡ sum_fits a b }
 {
     let x = magnitude(a);
     let y = magnitude(b);

@@ -1,36 +1,36 @@
 -- Case L by definition: each side computes. Assumes nothing.
 use mathlib.Core.Path.{refl}
-use Rattle.laws.specs.Sums.{sumBelow, count, sumOf}
+use Rattle.laws.specs.Sums.{sum_below, count, sum_of}
 use Rattle.laws.specs.Search.{first, every, some}
 use Rattle.laws.specs.Lists.{table, keep, same}
 use Rattle.laws.specs.Sort.{insert, sort, dedup}
 use Rattle.laws.specs.Lex.{lex}
 use Rattle.laws.specs.Checks.{unless, ◌then◌}
-use Rattle.laws.specs.Bits.{bit, withBit}
-use Rattle.clock.specs.Clock.{sumFits}
-use Rattle.credit_math.specs.Price.{buy, sell, executed, imbalance, executes, better, candidates, clearPrice, priceRefusal, findUniformClearPrice}
-use Rattle.credit_math.specs.ProRata.{share, shares, residue, precedes, turns, handOut}
+use Rattle.laws.specs.Bits.{bit, with_bit}
+use Rattle.clock.specs.Clock.{sum_fits}
+use Rattle.credit_math.specs.Price.{buy, sell, executed, imbalance, executes, better, candidates, clear_price, price_refusal, find_uniform_clear_price}
+use Rattle.credit_math.specs.ProRata.{share, shares, residue, precedes, turns, hand_out}
 use Rattle.credit_math.specs.ProRata as prorata
-use Rattle.book.specs.Book.{isLive}
-use Rattle.book.specs.Clear.{stored, liveOrders, searched, tradesAt, sideOrders, sideLots, allocations, allotted, floorOf, computeClear}
-use Rattle.investors.specs.Exclusion.{isOther, selfTrade, cashOf, investorExclusion}
-use Rattle.investors.specs.Participants.{contains, moved, firstOrder, participant, seen, distinctParticipants}
+use Rattle.book.specs.Book.{is_live}
+use Rattle.book.specs.Clear.{stored, live_orders, searched, trades_at, side_orders, side_lots, allocations, allotted, floor_of, compute_clear}
+use Rattle.investors.specs.Exclusion.{is_other, self_trade, cash_of, investor_exclusion}
+use Rattle.investors.specs.Participants.{contains, moved, first_order, participant, seen, distinct_participants}
 use Rattle.disclosure.specs.Disclosure.{width, banded, shown}
-use Rattle.escrow.specs.Cover.{decimalsRefusal, coverRefusal}
-use Rattle.auction_engine.specs.Session.{rofrEnd, fresh}
-use Rattle.auction_engine.specs.Call.{admits, limitsRefusal, fieldsRefusal, argumentsRefusal, inWindow}
-use Rattle.auction_engine.specs.Screening.{screenRefusal, exclusionOf, screenEffect, screenEvents}
-use Rattle.auction_engine.specs.Clearing.{clearRefusal, withLots, clearedBy, clearLines}
-use Rattle.auction_engine.specs.Matching.{dueAt, due, pair, one, afterFills, overfull, allocateRefusal, done, phaseAfter, allocateEffect, fillEvents, allocateEvents}
-use Rattle.auction_engine.specs.Settlement.{settleRefusal, settleEffect, settleEvents, skipRefusal, skipEffect, skipEvents, movedVolume, finishRefusal, finishEffect, printOf, finishEvents}
-use Rattle.auction_engine.specs.Engine.{ownRefusal, refusal, effect, events}
-use Rattle.auction_engine.specs.Opening.{headerRefusal, rowRefusal, orderRefusal, withOrder}
+use Rattle.escrow.specs.Cover.{decimals_refusal, cover_refusal}
+use Rattle.auction_engine.specs.Session.{rofr_end, fresh}
+use Rattle.auction_engine.specs.Call.{admits, limits_refusal, fields_refusal, arguments_refusal, in_window}
+use Rattle.auction_engine.specs.Screening.{screen_refusal, exclusion_of, screen_effect, screen_events}
+use Rattle.auction_engine.specs.Clearing.{clear_refusal, with_lots, cleared_by, clear_lines}
+use Rattle.auction_engine.specs.Matching.{due_at, due, pair, one, after_fills, overfull, allocate_refusal, done, phase_after, allocate_effect, fill_events, allocate_events}
+use Rattle.auction_engine.specs.Settlement.{settle_refusal, settle_effect, settle_events, skip_refusal, skip_effect, skip_events, moved_volume, finish_refusal, finish_effect, print_of, finish_events}
+use Rattle.auction_engine.specs.Engine.{own_refusal, refusal, effect, events}
+use Rattle.auction_engine.specs.Opening.{header_refusal, row_refusal, order_refusal, with_order}
 use Rattle.course.specs.CaseL.{CaseL}
 
-pub case-l : CaseL
-unfolding sumBelow count sumOf first every some table keep same insert sort dedup lex unless ◌then◌ bit withBit sumFits buy sell executed imbalance executes better candidates clearPrice priceRefusal findUniformClearPrice share shares residue precedes turns handOut prorata.lots isLive stored liveOrders searched tradesAt sideOrders sideLots allocations allotted floorOf computeClear isOther selfTrade cashOf investorExclusion contains moved firstOrder participant seen distinctParticipants width banded shown rofrEnd fresh admits limitsRefusal fieldsRefusal argumentsRefusal inWindow screenRefusal exclusionOf screenEffect screenEvents clearRefusal withLots clearedBy clearLines dueAt due pair one afterFills overfull allocateRefusal done phaseAfter allocateEffect fillEvents allocateEvents settleRefusal settleEffect settleEvents skipRefusal skipEffect skipEvents movedVolume finishRefusal finishEffect printOf finishEvents ownRefusal refusal effect events headerRefusal rowRefusal orderRefusal withOrder decimalsRefusal coverRefusal
-case-l = record {
-  header-accepted = refl;
-  rows-accepted = (refl, (refl, (refl, (refl, tt))));
+pub case_l : CaseL
+unfolding sum_below count sum_of first every some table keep same insert sort dedup lex unless ◌then◌ bit with_bit sum_fits buy sell executed imbalance executes better candidates clear_price price_refusal find_uniform_clear_price share shares residue precedes turns hand_out prorata.lots is_live stored live_orders searched trades_at side_orders side_lots allocations allotted floor_of compute_clear is_other self_trade cash_of investor_exclusion contains moved first_order participant seen distinct_participants width banded shown rofr_end fresh admits limits_refusal fields_refusal arguments_refusal in_window screen_refusal exclusion_of screen_effect screen_events clear_refusal with_lots cleared_by clear_lines due_at due pair one after_fills overfull allocate_refusal done phase_after allocate_effect fill_events allocate_events settle_refusal settle_effect settle_events skip_refusal skip_effect skip_events moved_volume finish_refusal finish_effect print_of finish_events own_refusal refusal effect events header_refusal row_refusal order_refusal with_order decimals_refusal cover_refusal
+case_l = record {
+  header_accepted = refl;
+  rows_accepted = (refl, (refl, (refl, (refl, tt))));
   course = (refl, refl, (refl, refl, (refl, refl, (refl, refl, (refl, refl, (refl, refl, (refl, refl, (refl, refl, (refl, refl, (refl, refl, (refl, refl, tt)))))))))));
 }

@@ -10,148 +10,148 @@ use lib.Dec.{eqb}
 use lib.IntN.{ℤ}
 use lib.ListN.{length}
 use Rattle.laws.specs.Lists.{same}
-use Rattle.laws.proofs.Tests.{tested, lt-or-le}
-use Rattle.book.specs.Book.{noWallet}
-use Rattle.book.specs.Clear.{liveOrders}
+use Rattle.laws.proofs.Tests.{tested, lt_or_le}
+use Rattle.book.specs.Book.{no_wallet}
+use Rattle.book.specs.Clear.{live_orders}
 use Rattle.book.specs.Claims as book
 use Rattle.book.specs.declared.clear.Outcome.{Outcome}
-use Rattle.book.proofs.Theorems.{clear-is-right}
+use Rattle.book.proofs.Theorems.{clear_is_right}
 use Rattle.events.specs.declared.Event.{Event}
 use Rattle.events.specs.declared.Event.TheVariants.{OrderScreened, SessionFailed, ClearingPrint, PhaseChanged}
 use Rattle.auction_engine.specs.declared.Session.{Session}
-use Rattle.auction_engine.specs.Session.{fillAt, atPhase, allocating, issuerRofr, settling, printed, failed, clearing}
+use Rattle.auction_engine.specs.Session.{fill_at, at_phase, allocating, issuer_rofr, settling, printed, failed, clearing}
 use Rattle.auction_engine.specs.Call.{Call, screen, clear, allocate, exercise, close, settle, skip, finish, expire, admits}
-use Rattle.auction_engine.specs.Screening.{exclusionOf, screenEvents, screenLines}
-use Rattle.auction_engine.specs.Clearing.{outcome, clearLines}
-use Rattle.auction_engine.specs.Matching.{due, one, afterFills, done, phaseAfter, allocateEffect, fillEvents, allocateEvents}
-use Rattle.auction_engine.specs.Rofr.{exerciseEvents, closeEvents}
-use Rattle.auction_engine.specs.Settlement.{printOf, settleEvents, skipEvents, finishEvents, expireEvents}
+use Rattle.auction_engine.specs.Screening.{exclusion_of, screen_events, screen_lines}
+use Rattle.auction_engine.specs.Clearing.{outcome, clear_lines}
+use Rattle.auction_engine.specs.Matching.{due, one, after_fills, done, phase_after, allocate_effect, fill_events, allocate_events}
+use Rattle.auction_engine.specs.Rofr.{exercise_events, close_events}
+use Rattle.auction_engine.specs.Settlement.{print_of, settle_events, skip_events, finish_events, expire_events}
 use Rattle.auction_engine.specs.Engine.{refusal, effect, events}
-use Rattle.auction_engine.proofs.Fills.{dueEvent, idle-after-fills, idle-events, due-count, due-events}
+use Rattle.auction_engine.proofs.Fills.{due_event, idle_after_fills, idle_events, due_count, due_events}
 use Rattle.course.specs.Course.{Run, note}
-use Rattle.course.specs.Lines.{Told, tell, tellAll, notesOf}
-use Rattle.course.proofs.Fills.{after-fills-grows, after-fills-phase}
-use Rattle.course.proofs.Accepted.{noted, Early, early-screen, early-clear, at-allocate, at-close, at-finish}
+use Rattle.course.specs.Lines.{Told, tell, tell_all, notes_of}
+use Rattle.course.proofs.Fills.{after_fills_grows, after_fills_phase}
+use Rattle.course.proofs.Accepted.{noted, Early, early_screen, early_clear, at_allocate, at_close, at_finish}
 
 -- lines told in two parts
-pub tell-append : (t : Told) (es fs : List Event) → tellAll t (es ++ fs) ≡ tellAll (tellAll t es) fs
-tell-append t [] fs = refl
-tell-append t (e ∷ es) fs = tell-append (tell t e) es fs
+pub tell_append : (t : Told) (es fs : List Event) → tell_all t (es ++ fs) ≡ tell_all (tell_all t es) fs
+tell_append t [] fs = refl
+tell_append t (e ∷ es) fs = tell_append (tell t e) es fs
 
 -- the same with another note of completeness, and with another number of fills
 abbrev completed : Told → Bool → Told
 completed t b =
-    record { purchases = t.purchases; skipped = t.skipped; skippedQty = t.skippedQty; crankFills = t.crankFills; prints = t.prints; complete = b }
+    record { purchases = t.purchases; skipped = t.skipped; skipped_qty = t.skipped_qty; crank_fills = t.crank_fills; prints = t.prints; complete = b }
 
 abbrev filled : Told → ℕ → Told
 filled t n =
-    record { purchases = t.purchases; skipped = t.skipped; skippedQty = t.skippedQty; crankFills = n; prints = t.prints; complete = t.complete }
+    record { purchases = t.purchases; skipped = t.skipped; skipped_qty = t.skipped_qty; crank_fills = n; prints = t.prints; complete = t.complete }
 
 -- a change of phase that is not out of Allocating tells nothing, and no failure but Deadline does
-other-phase : (t : Told) (from to : ℕ) → from ≢ allocating → tell t (PhaseChanged from to) ≡ t
-other-phase t from to h = ap (λ x. completed t (t.complete || (x && not (eqb to failed)))) (ne_eqb from allocating h) ∙ ap (completed t) (or-false t.complete)
+other_phase : (t : Told) (from to : ℕ) → from ≢ allocating → tell t (PhaseChanged from to) ≡ t
+other_phase t from to h = ap (λ x. completed t (t.complete || (x && not (eqb to failed)))) (ne_eqb from allocating h) ∙ ap (completed t) (or-false t.complete)
 
-other-reason : (t : Told) (reason : ℕ) → reason ≢ 4 → tell t (SessionFailed reason) ≡ t
-other-reason t reason h = ap (λ x. completed t (t.complete && not x)) (ne_eqb reason 4 h) ∙ ap (completed t) (and-true t.complete)
+other_reason : (t : Told) (reason : ℕ) → reason ≢ 4 → tell t (SessionFailed reason) ≡ t
+other_reason t reason h = ap (λ x. completed t (t.complete && not x)) (ne_eqb reason 4 h) ∙ ap (completed t) (and-true t.complete)
 
 -- lines of which either tells nothing
-either-tells : (t : Told) (x : Bool) (es fs : List Event) → t ≡ tellAll t es → t ≡ tellAll t fs → t ≡ tellAll t (cond x es fs)
-either-tells t true es fs h k = h
-either-tells t false es fs h k = k
+either_tells : (t : Told) (x : Bool) (es fs : List Event) → t ≡ tell_all t es → t ≡ tell_all t fs → t ≡ tell_all t (cond x es fs)
+either_tells t true es fs h k = h
+either_tells t false es fs h k = k
 
 -- screen and clear start from another phase
-before-matching : (phase : ℕ) → Early phase → phase ≢ allocating
+before_matching : (phase : ℕ) → Early phase → phase ≢ allocating
 unfolding admits
-before-matching phase e h = false≢true (rw h at e)
+before_matching phase e h = false≢true (rw h at e)
 
-screen-tells : (t : Told) (from i exclusion : ℕ) → from ≢ allocating → t ≡ tellAll t (screenLines from i exclusion)
-screen-tells t from i exclusion h = go (eqb from clearing)
+screen_tells : (t : Told) (from i exclusion : ℕ) → from ≢ allocating → t ≡ tell_all t (screen_lines from i exclusion)
+screen_tells t from i exclusion h = go (eqb from clearing)
   where
-    go : (x : Bool) → t ≡ tellAll t (cond x [] (PhaseChanged from clearing ∷ []) ++ (OrderScreened i exclusion ∷ []))
+    go : (x : Bool) → t ≡ tell_all t (cond x [] (PhaseChanged from clearing ∷ []) ++ (OrderScreened i exclusion ∷ []))
     go true = refl
-    go false = sym (other-phase t from clearing h)
+    go false = sym (other_phase t from clearing h)
 
 -- a clear fails with 1, 2 or 3
-right-reason : (s : Session) (o : Outcome) → book.RightClear s.params s.given s.orders s.order_count o → o.failed ≢ 4
-right-reason s o (book.no-cross h e) = rw e (omega arith)
-right-reason s o (book.too-large q b h e) = rw e (omega arith)
-right-reason s o (book.has-price h) = omega (arith, h.failed)
+right_reason : (s : Session) (o : Outcome) → book.RightClear s.params s.given s.orders s.order_count o → o.failed ≢ 4
+right_reason s o (book.no_crossing h e) = rw e (omega arith)
+right_reason s o (book.too_large q b h e) = rw e (omega arith)
+right_reason s o (book.has_price h) = omega (arith, h.failed)
 
-clear-reason : (s : Session) → (outcome s).failed ≢ 4
-clear-reason s =
-    let C = clear-is-right s.params s.given s.orders s.order_count in
+clear_reason : (s : Session) → (outcome s).failed ≢ 4
+clear_reason s =
+    let C = clear_is_right s.params s.given s.orders s.order_count in
     let unmarked : Bool = not s.params.forced && not s.given.mark in
-    ⊎_elim (λ h. rw (C.too-few h) (omega arith))
-    (λ (h : s.params.min_reveals ≤ length (liveOrders s.orders s.order_count)).
+    ⊎_elim (λ h. rw (C.too_few h) (omega arith))
+    (λ (h : s.params.min_reveals ≤ length (live_orders s.orders s.order_count)).
     ⊎_elim (λ (t : unmarked ≡ true). rw (C.unmarked h t) (omega arith))
-    (λ (t : unmarked ≡ false). right-reason s (outcome s) (C.right (record { enough = h; marked = t })))
+    (λ (t : unmarked ≡ false). right_reason s (outcome s) (C.right (record { enough = h; marked = t })))
     (tested unmarked))
-    (lt-or-le (length (liveOrders s.orders s.order_count)) s.params.min_reveals)
+    (lt_or_le (length (live_orders s.orders s.order_count)) s.params.min_reveals)
 
-clear-tells : (t : Told) (s : Session) (found : Outcome) → s.phase ≢ allocating → found.failed ≢ 4 → t ≡ tellAll t (clearLines s found)
-unfolding clearLines
-clear-tells t s found h f =
-    either-tells t (eqb found.failed 0) _ _ (sym (other-phase t s.phase allocating h))
-    (sym (ap (λ u. tell u (PhaseChanged s.phase failed)) (other-reason t found.failed f) ∙ other-phase t s.phase failed h))
+clear_tells : (t : Told) (s : Session) (found : Outcome) → s.phase ≢ allocating → found.failed ≢ 4 → t ≡ tell_all t (clear_lines s found)
+unfolding clear_lines
+clear_tells t s found h f =
+    either_tells t (eqb found.failed 0) _ _ (sym (other_phase t s.phase allocating h))
+    (sym (ap (λ u. tell u (PhaseChanged s.phase failed)) (other_reason t found.failed f) ∙ other_phase t s.phase failed h))
 
 -- each fill of a crank is told once
-fills-tell : (n : ℕ) (s : Session) (t : Told) → tellAll t (fillEvents n s) ≡ filled t (t.crankFills + ((afterFills n s).fill_count - s.fill_count))
-unfolding afterFills fillEvents
-fills-tell zero s t = ap (filled t) (omega arith)
-fills-tell (suc n) s t = go (due s) refl (λ u. fills-tell n (one s) u)
+fills_tell : (n : ℕ) (s : Session) (t : Told) → tell_all t (fill_events n s) ≡ filled t (t.crank_fills + ((after_fills n s).fill_count - s.fill_count))
+unfolding after_fills fill_events
+fills_tell zero s t = ap (filled t) (omega arith)
+fills_tell (suc n) s t = go (due s) refl (λ u. fills_tell n (one s) u)
   where
     go : (x : Bool) → due s ≡ x
-        → ((u : Told) → tellAll u (fillEvents n (one s)) ≡ filled u (u.crankFills + ((afterFills n (one s)).fill_count - (one s).fill_count)))
-        → tellAll t (fillEvents (suc n) s) ≡ filled t (t.crankFills + ((afterFills (suc n) s).fill_count - s.fill_count))
+        → ((u : Told) → tell_all u (fill_events n (one s)) ≡ filled u (u.crank_fills + ((after_fills n (one s)).fill_count - (one s).fill_count)))
+        → tell_all t (fill_events (suc n) s) ≡ filled t (t.crank_fills + ((after_fills (suc n) s).fill_count - s.fill_count))
     go true d ih =
-        ap (tellAll t) (due-events s d n) ∙ ih (tell t (dueEvent s)) ∙ ap (filled t) (omega (arith, due-count s d, after-fills-grows n (one s)))
-    go false d ih = ap (tellAll t) (idle-events s d (suc n)) ∙ ap (filled t) (omega (arith, ap (λ (u : Session). u.fill_count) (idle-after-fills s d (suc n))))
+        ap (tell_all t) (due_events s d n) ∙ ih (tell t (due_event s)) ∙ ap (filled t) (omega (arith, due_count s d, after_fills_grows n (one s)))
+    go false d ih = ap (tell_all t) (idle_events s d (suc n)) ∙ ap (filled t) (omega (arith, ap (λ (u : Session). u.fill_count) (idle_after_fills s d (suc n))))
 
 -- the matching leaves Allocating for IssuerRofr or Settling
-goes-on : (s : Session) → (phaseAfter s ≢ allocating) × (phaseAfter s ≢ failed)
-unfolding phaseAfter
-goes-on s = go (same s.params.rofr_authority noWallet)
+goes_on : (s : Session) → (phase_after s ≢ allocating) × (phase_after s ≢ failed)
+unfolding phase_after
+goes_on s = go (same s.params.rofr_authority no_wallet)
   where
-    go : (y : Bool) → (cond y settling issuerRofr ≢ allocating) × (cond y settling issuerRofr ≢ failed)
+    go : (y : Bool) → (cond y settling issuer_rofr ≢ allocating) × (cond y settling issuer_rofr ≢ failed)
     go true = (omega arith, omega arith)
     go false = (omega arith, omega arith)
 
-allocate-tells : (r : Run) (now : ℤ) (n : ℕ) → r.session.phase ≡ allocating → notesOf (noted r (allocate now n)) ≡ tellAll (notesOf r) (allocateEvents r.session n)
-unfolding note effect allocateEffect allocateEvents
-allocate-tells r now n h =
+allocate_tells : (r : Run) (now : ℤ) (n : ℕ) → r.session.phase ≡ allocating → notes_of (noted r (allocate now n)) ≡ tell_all (notes_of r) (allocate_events r.session n)
+unfolding note effect allocate_effect allocate_events
+allocate_tells r now n h =
     go (done t)
-    ∙ ap (λ u. tellAll u (cond (done t) (PhaseChanged s.phase (phaseAfter s) ∷ []) [])) (sym (fills-tell n s (notesOf r)))
-    ∙ sym (tell-append (notesOf r) (fillEvents n s) (cond (done t) (PhaseChanged s.phase (phaseAfter s) ∷ []) []))
+    ∙ ap (λ u. tell_all u (cond (done t) (PhaseChanged s.phase (phase_after s) ∷ []) [])) (sym (fills_tell n s (notes_of r)))
+    ∙ sym (tell_append (notes_of r) (fill_events n s) (cond (done t) (PhaseChanged s.phase (phase_after s) ∷ []) []))
   where
     s : Session
     s = r.session
 
     t : Session
-    t = afterFills n s
+    t = after_fills n s
 
     phase : t.phase ≡ allocating
-    phase = after-fills-phase n s ∙ h
+    phase = after_fills_phase n s ∙ h
 
     after : Session → Told
     after u =
-        completed (filled (notesOf r) (r.crankFills + (u.fill_count - s.fill_count))) (r.complete || not (eqb u.phase allocating))
+        completed (filled (notes_of r) (r.crank_fills + (u.fill_count - s.fill_count))) (r.complete || not (eqb u.phase allocating))
 
-    go : (x : Bool) → after (cond x (atPhase t (phaseAfter t)) t)
-        ≡ tellAll (filled (notesOf r) (r.crankFills + (t.fill_count - s.fill_count))) (cond x (PhaseChanged s.phase (phaseAfter s) ∷ []) [])
-    go true = rw (ne_eqb (phaseAfter t) allocating (goes-on t).0, ne_eqb (phaseAfter s) failed (goes-on s).1, eq-eqb s.phase allocating h)
+    go : (x : Bool) → after (cond x (at_phase t (phase_after t)) t)
+        ≡ tell_all (filled (notes_of r) (r.crank_fills + (t.fill_count - s.fill_count))) (cond x (PhaseChanged s.phase (phase_after s) ∷ []) [])
+    go true = rw (ne_eqb (phase_after t) allocating (goes_on t).0, ne_eqb (phase_after s) failed (goes_on s).1, eq-eqb s.phase allocating h)
     go false = rw (eq-eqb t.phase allocating phase, or-false)
 
 -- every call, by kind
-pub call-tells : (r : Run) (c : Call) → refusal r.session c ≡ 0 → notesOf (noted r c) ≡ tellAll (notesOf r) (events r.session c)
-unfolding note events screenEvents exerciseEvents closeEvents settleEvents skipEvents finishEvents expireEvents
-call-tells r (screen now i side verdict hasId id) e =
-    screen-tells (notesOf r) r.session.phase i (exclusionOf r.session i verdict hasId id) (before-matching _ (early-screen r.session now i side verdict hasId id e))
-call-tells r (clear now) e = clear-tells (notesOf r) r.session (outcome r.session) (before-matching _ (early-clear r.session now e)) (clear-reason r.session)
-call-tells r (allocate now n) e = allocate-tells r now n (at-allocate r.session now n e)
-call-tells r (exercise now issuer i q) e = refl
-call-tells r (close now caller) e = sym (other-phase (notesOf r) r.session.phase settling (omega (arith, at-close r.session now caller e)))
-call-tells r (settle i) e = either-tells (notesOf r) (eqb (fillAt r.session i).qty 0) [] _ refl refl
-call-tells r (skip now i reason) e = refl
-call-tells r (finish now) e =
-    sym (other-phase (tell (notesOf r) (ClearingPrint (printOf r.session))) r.session.phase printed (omega (arith, at-finish r.session now e)))
-call-tells r (expire now) e = rw (and-false r.complete, and-false (eqb r.session.phase allocating))
+pub call_tells : (r : Run) (c : Call) → refusal r.session c ≡ 0 → notes_of (noted r c) ≡ tell_all (notes_of r) (events r.session c)
+unfolding note events screen_events exercise_events close_events settle_events skip_events finish_events expire_events
+call_tells r (screen now i side verdict has_id id) e =
+    screen_tells (notes_of r) r.session.phase i (exclusion_of r.session i verdict has_id id) (before_matching _ (early_screen r.session now i side verdict has_id id e))
+call_tells r (clear now) e = clear_tells (notes_of r) r.session (outcome r.session) (before_matching _ (early_clear r.session now e)) (clear_reason r.session)
+call_tells r (allocate now n) e = allocate_tells r now n (at_allocate r.session now n e)
+call_tells r (exercise now issuer i q) e = refl
+call_tells r (close now caller) e = sym (other_phase (notes_of r) r.session.phase settling (omega (arith, at_close r.session now caller e)))
+call_tells r (settle i) e = either_tells (notes_of r) (eqb (fill_at r.session i).qty 0) [] _ refl refl
+call_tells r (skip now i reason) e = refl
+call_tells r (finish now) e =
+    sym (other_phase (tell (notes_of r) (ClearingPrint (print_of r.session))) r.session.phase printed (omega (arith, at_finish r.session now e)))
+call_tells r (expire now) e = rw (and-false r.complete, and-false (eqb r.session.phase allocating))

@@ -2,29 +2,29 @@
 use Rattle.std.specs.Prelude.{◌≡◌, cond, List, [], ◌∷◌, leb}
 use Rattle.auction_engine.specs.declared.Session.{Session}
 use Rattle.auction_engine.specs.declared.CallRecord.{CallRecord}
-use Rattle.auction_engine.specs.Call.{Call, expireKind}
-use Rattle.auction_engine.specs.Engine.{answer, callOf, applied}
+use Rattle.auction_engine.specs.Call.{Call, expire_kind}
+use Rattle.auction_engine.specs.Engine.{answer, call_of, applied}
 use Rattle.course.specs.Course.{begin, run}
 
 -- the session that calls leave, each getting what the one before it answered
-abbrev pub sessionAfter : Session → List Call → Session
-sessionAfter s [] = s
-sessionAfter s (c ∷ calls) = sessionAfter (answer s c).session calls
+abbrev pub session_after : Session → List Call → Session
+session_after s [] = s
+session_after s (c ∷ calls) = session_after (answer s c).session calls
 
 -- the same for call records
-abbrev pub applyAll : Session → List CallRecord → Session
-applyAll s [] = s
-applyAll s (r ∷ records) = applyAll (applied s r).session records
+abbrev pub apply_all : Session → List CallRecord → Session
+apply_all s [] = s
+apply_all s (r ∷ records) = apply_all (applied s r).session records
 
 -- the calls that they say; a kind above 8 says none
-abbrev pub callsOf : List CallRecord → List Call
-callsOf [] = []
-callsOf (r ∷ records) = cond (leb r.kind expireKind) (callOf r ∷ callsOf records) (callsOf records)
+abbrev pub calls_of : List CallRecord → List Call
+calls_of [] = []
+calls_of (r ∷ records) = cond (leb r.kind expire_kind) (call_of r ∷ calls_of records) (calls_of records)
 
 -- the session of a run is what the answers hand on
 abbrev pub RunIsAnswers : Type 0
-RunIsAnswers = (s : Session) (calls : List Call) → (run (begin s) calls).session ≡ sessionAfter s calls
+RunIsAnswers = (s : Session) (calls : List Call) → (run (begin s) calls).session ≡ session_after s calls
 
 -- applying the records in turn is `run`
 abbrev pub ApplyIsRun : Type 0
-ApplyIsRun = (s : Session) (records : List CallRecord) → applyAll s records ≡ (run (begin s) (callsOf records)).session
+ApplyIsRun = (s : Session) (records : List CallRecord) → apply_all s records ≡ (run (begin s) (calls_of records)).session

@@ -1,6 +1,6 @@
 -- Case L of document 01, by definition: what each call answers. proofs/CaseL.antt proves it.
 use Rattle.std.specs.Prelude.{◌≡◌, true, false, List, [], ◌∷◌, ℕ, pos, replicate}
-use Rattle.book.specs.Book.{noWallet}
+use Rattle.book.specs.Book.{no_wallet}
 use Rattle.book.specs.declared.Params.{Params}
 use Rattle.book.specs.declared.Given.{Given}
 use Rattle.book.specs.declared.Row.{Row}
@@ -11,7 +11,7 @@ use Rattle.auction_engine.specs.declared.Session.{Session}
 use Rattle.auction_engine.specs.Session.{fresh}
 use Rattle.auction_engine.specs.Call.{Call, screen, clear, allocate, settle, skip, finish}
 use Rattle.auction_engine.specs.Engine.{refusal, effect, events}
-use Rattle.auction_engine.specs.Opening.{headerRefusal, withRows, RowsAccepted}
+use Rattle.auction_engine.specs.Opening.{header_refusal, with_rows, RowsAccepted}
 
 -- 'Header: 100, 0, 200, cash 1000, 2 reveals, unforced, no authority'
 abbrev pub params : Params
@@ -23,7 +23,7 @@ params =
       max_cash = 1000;
       min_reveals = 2;
       forced = false;
-      rofr_authority = noWallet;
+      rofr_authority = no_wallet;
     }
 
 -- 'mark 1, reserve 9, reference 10, Banded 2500'
@@ -81,6 +81,6 @@ lines =
 
 -- the header and the orders are accepted, and so is each call, with its lines
 pub record CaseL : Type 0 where
-  pub header-accepted : headerRefusal params given Unasked ≡ 0
-  pub rows-accepted : RowsAccepted (fresh params given) Unasked rows
-  pub course : Accepts (withRows (fresh params given) rows) calls lines
+  pub header_accepted : header_refusal params given Unasked ≡ 0
+  pub rows_accepted : RowsAccepted (fresh params given) Unasked rows
+  pub course : Accepts (with_rows (fresh params given) rows) calls lines

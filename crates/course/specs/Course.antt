@@ -2,9 +2,9 @@
 use Rattle.std.specs.Prelude.{Bool, false, cond, not, ◌||◌, List, [], ◌∷◌, ℕ, ◌+◌, ◌-◌, eqb}
 use Rattle.events.specs.declared.Print.{Print}
 use Rattle.auction_engine.specs.declared.Session.{Session}
-use Rattle.auction_engine.specs.Session.{fillAt, allocating}
+use Rattle.auction_engine.specs.Session.{fill_at, allocating}
 use Rattle.auction_engine.specs.Call.{Call, screen, clear, allocate, exercise, close, settle, skip, finish, expire}
-use Rattle.auction_engine.specs.Settlement.{movedVolume, printOf}
+use Rattle.auction_engine.specs.Settlement.{moved_volume, print_of}
 use Rattle.auction_engine.specs.Engine.{refusal, effect}
 
 -- 'A purchase is an accepted exercise, told by fill number and quantity'
@@ -21,47 +21,47 @@ pub record Run : Type 0 where
   pub settled : List ℕ
   pub skipped : List ℕ
   -- 'skipped quantity adds up QTY over the accepted skips'
-  pub skippedQty : ℕ
+  pub skipped_qty : ℕ
   -- 'the cranks' fills are those that the list's allocates made'
-  pub crankFills : ℕ
+  pub crank_fills : ℕ
   -- 'The print is the numbers after the word in the `print` line'
   pub prints : List Print
   -- 'Printed quantity is the volume that the accepted finish gives to `disclose`'
-  pub printedQty : ℕ
+  pub printed_qty : ℕ
   -- 'The matching is complete from the allocate that leaves phase 2 until an accepted expire'
   pub complete : Bool
 
 -- a run, by its parts
-abbrev pub runOf : Session → List Purchase → (settled skipped : List ℕ) (skippedQty crankFills : ℕ) → List Print → (printedQty : ℕ) (complete : Bool) → Run
-runOf s bs st sk sq n ps pq c =
-    record { session = s; purchases = bs; settled = st; skipped = sk; skippedQty = sq; crankFills = n; prints = ps; printedQty = pq; complete = c }
+abbrev pub run_of : Session → List Purchase → (settled skipped : List ℕ) (skipped_qty crank_fills : ℕ) → List Print → (printed_qty : ℕ) (complete : Bool) → Run
+run_of s bs st sk sq n ps pq c =
+    record { session = s; purchases = bs; settled = st; skipped = sk; skipped_qty = sq; crank_fills = n; prints = ps; printed_qty = pq; complete = c }
 
 -- nothing done yet
 abbrev pub begin : Session → Run
-begin s = runOf s [] [] [] 0 0 [] 0 false
+begin s = run_of s [] [] [] 0 0 [] 0 false
 
-abbrev pub withSession : Run → Session → Run
-withSession r s = runOf s r.purchases r.settled r.skipped r.skippedQty r.crankFills r.prints r.printedQty r.complete
+abbrev pub with_session : Run → Session → Run
+with_session r s = run_of s r.purchases r.settled r.skipped r.skipped_qty r.crank_fills r.prints r.printed_qty r.complete
 
 -- an accepted call that hands back s, noted
 unfoldable pub note : Run → Session → Call → Run
-note r s (screen now i side verdict hasId id) = withSession r s
-note r s (clear now) = withSession r s
+note r s (screen now i side verdict has_id id) = with_session r s
+note r s (clear now) = with_session r s
 note r s (allocate now n) =
-    runOf s r.purchases r.settled r.skipped r.skippedQty (r.crankFills + (s.fill_count - r.session.fill_count))
-    r.prints r.printedQty (r.complete || not (eqb s.phase allocating))
+    run_of s r.purchases r.settled r.skipped r.skipped_qty (r.crank_fills + (s.fill_count - r.session.fill_count))
+    r.prints r.printed_qty (r.complete || not (eqb s.phase allocating))
 note r s (exercise now issuer i q) =
-    runOf s (record { fill = i; qty = q } ∷ r.purchases) r.settled r.skipped r.skippedQty r.crankFills r.prints r.printedQty r.complete
-note r s (close now caller) = withSession r s
+    run_of s (record { fill = i; qty = q } ∷ r.purchases) r.settled r.skipped r.skipped_qty r.crank_fills r.prints r.printed_qty r.complete
+note r s (close now caller) = with_session r s
 note r s (settle i) =
-    runOf s r.purchases (i ∷ r.settled) r.skipped r.skippedQty r.crankFills r.prints r.printedQty r.complete
+    run_of s r.purchases (i ∷ r.settled) r.skipped r.skipped_qty r.crank_fills r.prints r.printed_qty r.complete
 note r s (skip now i reason) =
-    runOf s r.purchases r.settled (i ∷ r.skipped) (r.skippedQty + (fillAt r.session i).qty) r.crankFills r.prints r.printedQty r.complete
+    run_of s r.purchases r.settled (i ∷ r.skipped) (r.skipped_qty + (fill_at r.session i).qty) r.crank_fills r.prints r.printed_qty r.complete
 note r s (finish now) =
-    runOf s r.purchases r.settled r.skipped r.skippedQty r.crankFills
-    (printOf r.session ∷ r.prints) (r.printedQty + movedVolume r.session) r.complete
+    run_of s r.purchases r.settled r.skipped r.skipped_qty r.crank_fills
+    (print_of r.session ∷ r.prints) (r.printed_qty + moved_volume r.session) r.complete
 note r s (expire now) =
-    runOf s r.purchases r.settled r.skipped r.skippedQty r.crankFills r.prints r.printedQty false
+    run_of s r.purchases r.settled r.skipped r.skipped_qty r.crank_fills r.prints r.printed_qty false
 
 -- 'each call gets the session that the one before it handed back'; a refused call leaves all as it was
 unfoldable pub advance : Run → Call → Run

@@ -1,24 +1,24 @@
 -- Demand 2 over the call `clear`: what it answers for every session and time. proofs/Demand2.antt proves it; `ClearIsRight` of book says the same
 -- of `compute_clear` alone.
 use Rattle.std.specs.Prelude.{◌≡◌, ◌≢◌, ◌↔◌, Bool, false, cond, not, List, [], ◌∷◌, ℕ, ◌^◌, ◌≤◌, ◌<◌, ℤ, length, get_or}
-use Rattle.laws.specs.Sums.{sumBelow, only}
+use Rattle.laws.specs.Sums.{sum_below, only}
 use Rattle.laws.specs.Checks.{◌then◌}
-use Rattle.credit_math.specs.Error.{noCross}
-use Rattle.book.specs.Book.{isBuy}
-use Rattle.book.specs.Clear.{liveOrders, allocations, floorOf, tooFewReveals, markUnavailable, mathOverflow}
+use Rattle.credit_math.specs.Error.{no_cross}
+use Rattle.book.specs.Book.{is_buy}
+use Rattle.book.specs.Clear.{live_orders, allocations, floor_of, too_few_reveals, mark_unavailable, math_overflow}
 use Rattle.book.specs.Claims as book
 use Rattle.events.specs.Events.{packed}
 use Rattle.events.specs.declared.Event.TheVariants as event
 use Rattle.auction_engine.specs.declared.Session.{Session}
 use Rattle.auction_engine.specs.declared.Answer.{Answer}
-use Rattle.auction_engine.specs.Session.{orderAt, remake, atPhase, allocating, failed}
-use Rattle.auction_engine.specs.Call.{clear, limitsRefusal, fieldsRefusal}
-use Rattle.auction_engine.specs.Clearing.{clearChecks, withLot, withLots}
-use Rattle.auction_engine.specs.Engine.{refusedBy, answer}
+use Rattle.auction_engine.specs.Session.{order_at, remake, at_phase, allocating, failed}
+use Rattle.auction_engine.specs.Call.{clear, limits_refusal, fields_refusal}
+use Rattle.auction_engine.specs.Clearing.{clear_checks, with_lot, with_lots}
+use Rattle.auction_engine.specs.Engine.{refused_by, answer}
 
 -- 'Library call, any' | 9; 4, then 'Clear' | 11; 10; 16
 abbrev pub checks : Session → (now : ℤ) → ℕ
-checks s now = limitsRefusal s then fieldsRefusal s then clearChecks s now
+checks s now = limits_refusal s then fields_refusal s then clear_checks s now
 
 module _ (s : Session) where
   -- 'with enough live orders, and a mark unless the sale is forced'
@@ -32,16 +32,16 @@ module _ (s : Session) where
   abbrev pub BestPrice : ℕ → Type 0
   BestPrice = book.BestPrice s.params s.given s.orders s.order_count
 
-  abbrev pub executedAt : ℕ → ℕ
-  executedAt = book.executedAt s.params s.given s.orders s.order_count
+  abbrev pub executed_at : ℕ → ℕ
+  executed_at = book.executed_at s.params s.given s.orders s.order_count
 
   -- the pro-rata lots at a price
-  abbrev pub lotsAt : (price : ℕ) → List ℕ
-  lotsAt price = allocations s.orders s.order_count price (executedAt price)
+  abbrev pub lots_at : (price : ℕ) → List ℕ
+  lots_at price = allocations s.orders s.order_count price (executed_at price)
 
   -- 'Failing to clear is an accepted answer': phase Failed, nothing else changes, and `failed R`
   abbrev pub fails : (reason : ℕ) → Answer
-  fails reason = record { refusal = 0; session = atPhase s failed; events = packed (event.SessionFailed reason ∷ event.PhaseChanged s.phase failed ∷ []) }
+  fails reason = record { refusal = 0; session = at_phase s failed; events = packed (event.SessionFailed reason ∷ event.PhaseChanged s.phase failed ∷ []) }
 
   -- a clear at a price: its figures and lots, phase Allocating, and `clear PRICE VOLUME RESERVE REFERENCE`
   abbrev pub clears : (price : ℕ) → Answer
@@ -52,45 +52,45 @@ module _ (s : Session) where
             remake s
             (record {
               clear_price = price;
-              cleared_volume = executedAt price;
-              reserve_price = floorOf s.params s.given;
+              cleared_volume = executed_at price;
+              reserve_price = floor_of s.params s.given;
               reference_mark = s.given.reference;
             })
             allocating s.rofr_qty s.fills_settled s.skipped_fills
-            (withLots s.orders (lotsAt price) s.order_count)
+            (with_lots s.orders (lots_at price) s.order_count)
             s.fills s.fill_count;
         events =
-            packed (event.Cleared price (executedAt price) (floorOf s.params s.given) s.given.reference ∷ event.PhaseChanged s.phase allocating ∷ []);
+            packed (event.Cleared price (executed_at price) (floor_of s.params s.given) s.given.reference ∷ event.PhaseChanged s.phase allocating ∷ []);
       }
 
   -- the lots in the orders of a session t that was cleared at a price
   pub record Lotted (price : ℕ) (t : Session) : Type 0 where
     -- each order has its lot in `alloc` and `alloc_left` and is else as it was; nothing is written past the orders
-    pub lot : (i : ℕ) → i < s.order_count → orderAt t i ≡ withLot (orderAt s i) (get_or (lotsAt price) i 0)
-    pub past : (i : ℕ) → s.order_count ≤ i → orderAt t i ≡ orderAt s i
+    pub lot : (i : ℕ) → i < s.order_count → order_at t i ≡ with_lot (order_at s i) (get_or (lots_at price) i 0)
+    pub past : (i : ℕ) → s.order_count ≤ i → order_at t i ≡ order_at s i
     -- 'each side's lots add up to it, none above its order', and the orders that do not trade at the price have none
-    pub sides : (buys : Bool) → sumBelow (λ i. only (cond buys (isBuy (orderAt t i)) (not (isBuy (orderAt t i)))) (orderAt t i).alloc) s.order_count ≡ executedAt price
-    pub within : (i : ℕ) → i < s.order_count → (orderAt t i).alloc ≤ (orderAt t i).qty
-    pub others : (i : ℕ) → i < s.order_count → book.takesPart s.params s.given s.orders s.order_count price i ≡ false → (orderAt t i).alloc ≡ 0
+    pub sides : (buys : Bool) → sum_below (λ i. only (cond buys (is_buy (order_at t i)) (not (is_buy (order_at t i)))) (order_at t i).alloc) s.order_count ≡ executed_at price
+    pub within : (i : ℕ) → i < s.order_count → (order_at t i).alloc ≤ (order_at t i).qty
+    pub others : (i : ℕ) → i < s.order_count → book.takes_part s.params s.given s.orders s.order_count price i ≡ false → (order_at t i).alloc ≡ 0
 
   -- what a clear that passes the checks answers, one of five
   pub data RightClear (a : Answer) : Type 0 where
     -- 'TooFewReveals 1 (live orders below min_reveals)'
-    too-few : length (liveOrders s.orders s.order_count) < s.params.min_reveals → a ≡ fails tooFewReveals → RightClear a
+    too_few : length (live_orders s.orders s.order_count) < s.params.min_reveals → a ≡ fails too_few_reveals → RightClear a
     -- 'MarkUnavailable 3 (unforced, mark 0)'
-    unmarked : s.params.min_reveals ≤ length (liveOrders s.orders s.order_count) → s.params.forced ≡ false → s.given.mark ≡ false
-        → a ≡ fails markUnavailable → RightClear a
+    unmarked : s.params.min_reveals ≤ length (live_orders s.orders s.order_count) → s.params.forced ≡ false → s.given.mark ≡ false
+        → a ≡ fails mark_unavailable → RightClear a
     -- 'clearing ends in NoCross exactly when no live limit at or above the reserve executes anything'
-    no-cross : Clearable → ((q : ℕ) → Executes q → ⊥) → a ≡ fails noCross → RightClear a
+    no_crossing : Clearable → ((q : ℕ) → Executes q → ⊥) → a ≡ fails no_cross → RightClear a
     -- '17 volume above 64 bits'
-    too-large : Clearable → (price : ℕ) → BestPrice price → 2 ^ 64 ≤ executedAt price → a ≡ refusedBy s mathOverflow → RightClear a
+    too_large : Clearable → (price : ℕ) → BestPrice price → 2 ^ 64 ≤ executed_at price → a ≡ refused_by s math_overflow → RightClear a
     -- 'otherwise the price is the best ..'
-    cleared : Clearable → (price : ℕ) → BestPrice price → executedAt price < 2 ^ 64 → a ≡ clears price → Lotted price a.session → RightClear a
+    cleared : Clearable → (price : ℕ) → BestPrice price → executed_at price < 2 ^ 64 → a ≡ clears price → Lotted price a.session → RightClear a
 
 -- Demand 2
 pub record Demand2 (s : Session) (now : ℤ) : Type 0 where
-  pub turned-away : checks s now ≢ 0 → answer s (clear now) ≡ refusedBy s (checks s now)
+  pub turned_away : checks s now ≢ 0 → answer s (clear now) ≡ refused_by s (checks s now)
   pub right : checks s now ≡ 0 → RightClear s (answer s (clear now))
-  pub one-answer : checks s now ≡ 0 → (a : Answer) → RightClear s a → a ≡ answer s (clear now)
+  pub one_answer : checks s now ≡ 0 → (a : Answer) → RightClear s a → a ≡ answer s (clear now)
   -- 'with enough live orders, and a mark unless the sale is forced, clearing ends in NoCross exactly when ..'
-  pub no-cross-exactly : checks s now ≡ 0 → Clearable s → (answer s (clear now) ≡ fails s noCross) ↔ ((q : ℕ) → Executes s q → ⊥)
+  pub no_cross_exactly : checks s now ≡ 0 → Clearable s → (answer s (clear now) ≡ fails s no_cross) ↔ ((q : ℕ) → Executes s q → ⊥)

@@ -1,14 +1,14 @@
 -- Demand 3, to be read beside 'Lists of calls' of document 01. proofs/Demand3.antt proves it.
 use Rattle.std.specs.Prelude.{◌≡◌, ◌↔◌, ◌≢◌, Bool, true, false, ◌&&◌, ◌||◌, List, [], ◌∷◌, ℕ, suc, ◌+◌, ◌≤◌, ◌<◌, eqb, ltb, ℤ, length, get_or}
-use Rattle.laws.specs.Sums.{sumOver, only, count}
+use Rattle.laws.specs.Sums.{sum_over, only, count}
 use Rattle.laws.specs.Lists.{Member, same}
-use Rattle.credit_math.specs.Limits.{maxOrders}
-use Rattle.book.specs.Book.{noFill, sellSide}
+use Rattle.credit_math.specs.Limits.{max_orders}
+use Rattle.book.specs.Book.{no_fill, sell_side}
 use Rattle.book.specs.declared.Fill.{Fill}
 use Rattle.events.specs.declared.Event.{Event}
 use Rattle.events.specs.declared.Event.TheVariants.{Cleared}
 use Rattle.auction_engine.specs.declared.Session.{Session}
-use Rattle.auction_engine.specs.Session.{orderAt, allocating}
+use Rattle.auction_engine.specs.Session.{order_at, allocating}
 use Rattle.auction_engine.specs.Call.{Call, screen, clear, allocate, exercise, close, settle, skip, finish, expire}
 use Rattle.auction_engine.specs.Clearing.{outcome}
 use Rattle.auction_engine.specs.Engine.{refusal, effect, events}
@@ -35,12 +35,12 @@ pub record JustCleared (s : Session) : Type 0 where
   pub is : s ≡ effect (after (opened opening) calls).session (clear now)
 
 -- 'An order's lot is what `compute_clear` allots it by pro-rata, otherwise 0'
-abbrev pub lotOf : {s : Session} → JustCleared s → ℕ → ℕ
-lotOf j i = get_or (outcome (after (opened j.opening) j.calls).session).lots i 0
+abbrev pub lot_of : {s : Session} → JustCleared s → ℕ → ℕ
+lot_of j i = get_or (outcome (after (opened j.opening) j.calls).session).lots i 0
 
 -- 'an order with a lot has more than 0'
-abbrev pub ordersWithLot : {s : Session} → JustCleared s → ℕ
-ordersWithLot {s} j = count (λ i. ltb 0 (lotOf j i)) s.order_count
+abbrev pub orders_with_lot : {s : Session} → JustCleared s → ℕ
+orders_with_lot {s} j = count (λ i. ltb 0 (lot_of j i)) s.order_count
 
 -- 'For every two such lists that both finish'
 abbrev pub Finishes : Run → Type 0
@@ -54,15 +54,15 @@ pub record Alike (r t : Run) : Type 0 where
 
 -- 'A seller's fills are all in the session that name its order as the sell order, those of issuer purchases included': what a fill sells for
 -- a wallet, and all fills of a session
-abbrev pub soldBy : (owner : List ℕ) → Fill → ℕ
-soldBy owner f = only (same f.seller owner) f.qty
+abbrev pub sold_by : (owner : List ℕ) → Fill → ℕ
+sold_by owner f = only (same f.seller owner) f.qty
 
 abbrev pub sold : Session → (owner : List ℕ) → ℕ
-sold s owner = sumOver (soldBy owner) noFill s.fills s.fill_count
+sold s owner = sum_over (sold_by owner) no_fill s.fills s.fill_count
 
 -- an allocate's allowance
 abbrev pub allowance : Call → ℕ
-allowance (screen now i side verdict hasId id) = 0
+allowance (screen now i side verdict has_id id) = 0
 allowance (clear now) = 0
 allowance (allocate now n) = n
 allowance (exercise now issuer i q) = 0
@@ -78,20 +78,20 @@ allowances [] = 0
 allowances (c ∷ calls) = allowance c + allowances calls
 
 -- the list has an accepted expire: from any run on
-abbrev pub isExpire : Call → Bool
-isExpire (screen now i side verdict hasId id) = false
-isExpire (clear now) = false
-isExpire (allocate now n) = false
-isExpire (exercise now issuer i q) = false
-isExpire (close now caller) = false
-isExpire (settle i) = false
-isExpire (skip now i reason) = false
-isExpire (finish now) = false
-isExpire (expire now) = true
+abbrev pub is_expire : Call → Bool
+is_expire (screen now i side verdict has_id id) = false
+is_expire (clear now) = false
+is_expire (allocate now n) = false
+is_expire (exercise now issuer i q) = false
+is_expire (close now caller) = false
+is_expire (settle i) = false
+is_expire (skip now i reason) = false
+is_expire (finish now) = false
+is_expire (expire now) = true
 
 abbrev pub expires : Session → List Call → Bool
 expires s [] = false
-expires s (c ∷ calls) = (isExpire c && eqb (refusal s c) 0) || expires (run (begin s) (c ∷ [])).session calls
+expires s (c ∷ calls) = (is_expire c && eqb (refusal s c) 0) || expires (run (begin s) (c ∷ [])).session calls
 
 -- the demand, of one just cleared session
 pub record Agreement {s : Session} (j : JustCleared s) : Type 0 where
@@ -99,14 +99,14 @@ pub record Agreement {s : Session} (j : JustCleared s) : Type 0 where
   pub agree : (l k : List Call) → Finishes (after s l) → Finishes (after s k) → Alike (after s l) (after s k)
       → ((after s l).session ≡ (after s k).session) × ((after s l).prints ≡ (after s k).prints)
   -- a list that finishes has one print
-  pub one-print : (l : List Call) → Finishes (after s l) → length (after s l).prints ≡ 1
+  pub one_print : (l : List Call) → Finishes (after s l) → length (after s l).prints ≡ 1
   -- 'After every such list the cranks' fills number fewer than the orders with a lot'
-  pub fewer : (l : List Call) → (after s l).crankFills < ordersWithLot j
+  pub fewer : (l : List Call) → (after s l).crank_fills < orders_with_lot j
   -- 'once the matching is complete, each seller's fills, with the issuer's, add up to the lot'
-  pub sellers : (l : List Call) → (after s l).complete ≡ true → (i : ℕ) → i < s.order_count → (orderAt s i).side ≡ sellSide
-      → sold (after s l).session (orderAt s i).owner ≡ lotOf j i
+  pub sellers : (l : List Call) → (after s l).complete ≡ true → (i : ℕ) → i < s.order_count → (order_at s i).side ≡ sell_side
+      → sold (after s l).session (order_at s i).owner ≡ lot_of j i
   -- 'and if it finishes, before disclosure printed plus skipped quantity is the cleared volume'
-  pub volume : (l : List Call) → Finishes (after s l) → (after s l).printedQty + (after s l).skippedQty ≡ j.volume
+  pub volume : (l : List Call) → Finishes (after s l) → (after s l).printed_qty + (after s l).skipped_qty ≡ j.volume
 
 -- Demand 3
 abbrev pub Demand3 : Type 0
@@ -115,5 +115,5 @@ Demand3 = (s : Session) (j : JustCleared s) → Agreement j
 -- Beside it: allowances that add up to one less than the most orders complete every matching that no expire ends
 abbrev pub Completion : Type 0
 Completion =
-    (s : Session) → JustCleared s → (l : List Call) → maxOrders ≤ suc (allowances l) → expires s l ≡ false
+    (s : Session) → JustCleared s → (l : List Call) → max_orders ≤ suc (allowances l) → expires s l ≡ false
     → ((after s l).complete ≡ true) × ((after s l).session.phase ≢ allocating)

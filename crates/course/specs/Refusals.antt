@@ -3,28 +3,28 @@ use Rattle.std.specs.Prelude.{cond, List, [], ◌∷◌, ℕ, leb}
 use Rattle.laws.specs.Lists.{Member}
 use Rattle.auction_engine.specs.declared.Session.{Session}
 use Rattle.auction_engine.specs.declared.CallRecord.{CallRecord}
-use Rattle.auction_engine.specs.Call.{Call, screen, clear, allocate, exercise, close, settle, skip, finish, expire, expireKind}
-use Rattle.auction_engine.specs.Engine.{answer, callOf, applied}
+use Rattle.auction_engine.specs.Call.{Call, screen, clear, allocate, exercise, close, settle, skip, finish, expire, expire_kind}
+use Rattle.auction_engine.specs.Engine.{answer, call_of, applied}
 
 -- the numbers of a call's row, in the order of its checks
-abbrev pub numbersOf : Call → List ℕ
-numbersOf (screen now i side verdict hasId id) = 11 ∷ 10 ∷ 12 ∷ 13 ∷ 14 ∷ 15 ∷ []
-numbersOf (clear now) = 11 ∷ 10 ∷ 16 ∷ 17 ∷ []
-numbersOf (allocate now n) = 10 ∷ 18 ∷ []
-numbersOf (exercise now issuer i q) = 10 ∷ 11 ∷ 19 ∷ 20 ∷ 18 ∷ 21 ∷ 22 ∷ []
-numbersOf (close now caller) = 10 ∷ 19 ∷ []
-numbersOf (settle i) = 10 ∷ 21 ∷ 23 ∷ []
-numbersOf (skip now i reason) = 10 ∷ 21 ∷ 23 ∷ 24 ∷ []
-numbersOf (finish now) = 10 ∷ 25 ∷ 17 ∷ []
-numbersOf (expire now) = 10 ∷ 11 ∷ []
+abbrev pub numbers_of : Call → List ℕ
+numbers_of (screen now i side verdict has_id id) = 11 ∷ 10 ∷ 12 ∷ 13 ∷ 14 ∷ 15 ∷ []
+numbers_of (clear now) = 11 ∷ 10 ∷ 16 ∷ 17 ∷ []
+numbers_of (allocate now n) = 10 ∷ 18 ∷ []
+numbers_of (exercise now issuer i q) = 10 ∷ 11 ∷ 19 ∷ 20 ∷ 18 ∷ 21 ∷ 22 ∷ []
+numbers_of (close now caller) = 10 ∷ 19 ∷ []
+numbers_of (settle i) = 10 ∷ 21 ∷ 23 ∷ []
+numbers_of (skip now i reason) = 10 ∷ 21 ∷ 23 ∷ 24 ∷ []
+numbers_of (finish now) = 10 ∷ 25 ∷ 17 ∷ []
+numbers_of (expire now) = 10 ∷ 11 ∷ []
 
 -- a call answers 0, where it is accepted, or 9 or 4 ('Library call, any'), or a number of its row
 abbrev pub RefusedByItsRow : Type 0
-RefusedByItsRow = (s : Session) (c : Call) → Member (answer s c).refusal (0 ∷ 9 ∷ 4 ∷ numbersOf c)
+RefusedByItsRow = (s : Session) (c : Call) → Member (answer s c).refusal (0 ∷ 9 ∷ 4 ∷ numbers_of c)
 
 -- the same of a call record; one of a kind above 8 has no row
-abbrev pub recordNumbers : CallRecord → List ℕ
-recordNumbers r = cond (leb r.kind expireKind) (numbersOf (callOf r)) []
+abbrev pub record_numbers : CallRecord → List ℕ
+record_numbers r = cond (leb r.kind expire_kind) (numbers_of (call_of r)) []
 
 abbrev pub RecordRefusedByItsRow : Type 0
-RecordRefusedByItsRow = (s : Session) (r : CallRecord) → Member (applied s r).refusal (0 ∷ 9 ∷ 4 ∷ recordNumbers r)
+RecordRefusedByItsRow = (s : Session) (r : CallRecord) → Member (applied s r).refusal (0 ∷ 9 ∷ 4 ∷ record_numbers r)

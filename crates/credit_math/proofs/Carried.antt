@@ -7,31 +7,31 @@ use Prim.Native.Nat.{ℕ, ◌+◌, ◌*◌, ◌^◌, ◌≤◌, ◌<◌}
 use native.Mathlib.Nat.{lt_of_le_of_lt, lt_of_lt_of_le}
 use native.Mathlib.Decide.{ℕ_discrete}
 use native.Mathlib.Omega.{arith}
-use Rattle.laws.specs.Sums.{sumBelow, only}
+use Rattle.laws.specs.Sums.{sum_below, only}
 use Rattle.laws.proofs.Tests.{clash}
-use Rattle.laws.proofs.Sums.{sum-same, sum-zero, sum-at, sum-le-sum, sum-mono}
-use Rattle.laws.proofs.Widths.{sum-below}
+use Rattle.laws.proofs.Sums.{sum_same, sum_zero, sum_at, sum_le_sum, sum_mono}
+use Rattle.laws.proofs.Widths.{sum_below_lem}
 
 -- a term that counts where the rest of its test holds
-only-and : (a b : Bool) (x : ℕ) → (a ≡ true → b ≡ true) → only a x ≡ only (a && b) x
-only-and true b x h = rw (h refl)
-only-and false b x h = refl
+only_and : (a b : Bool) (x : ℕ) → (a ≡ true → b ≡ true) → only a x ≡ only (a && b) x
+only_and true b x h = rw (h refl)
+only_and false b x h = refl
 
-pub only-within : (a : Bool) (x : ℕ) → only a x ≤ x
-only-within true x = omega arith
-only-within false x = omega arith
+pub only_within : (a : Bool) (x : ℕ) → only a x ≤ x
+only_within true x = omega arith
+only_within false x = omega arith
 
 -- n places, each with its value, what it adds and its row; `le` is the order in which they are passed
 module _ (n : ℕ) (v q row : ℕ → ℕ) (le : ℕ → ℕ → Bool) where
   -- some places are done: the sum is theirs, and each row of theirs holds what those up to its value add
   pub record Carrying (done : ℕ → Bool) (sum : ℕ) (out : ℕ → ℕ) : Type 0 where
-    pub carried : sum ≡ sumBelow (λ h. only (done h) (q h)) n
-    pub held : (i : ℕ) → i < n → done i ≡ true → out (row i) ≡ sumBelow (λ h. only (done h && le (v h) (v i)) (q h)) n
+    pub carried : sum ≡ sum_below (λ h. only (done h) (q h)) n
+    pub held : (i : ℕ) → i < n → done i ≡ true → out (row i) ≡ sum_below (λ h. only (done h && le (v h) (v i)) (q h)) n
     pub blank : (m : ℕ) → ((i : ℕ) → i < n → done i ≡ true → row i ≢ m) → out m ≡ 0
 
   pub carrying : {done : ℕ → Bool} {sum : ℕ} {out : ℕ → ℕ} → ((h : ℕ) → h < n → done h ≡ false) → sum ≡ 0 → ((m : ℕ) → out m ≡ 0) → Carrying done sum out
   carrying {done} {sum} {out} none e z = record {
-    carried = e ∙ sym (sum-zero (λ h. only (done h) (q h)) n (λ h l. ap (λ (b : Bool). only b (q h)) (none h l)));
+    carried = e ∙ sym (sum_zero (λ h. only (done h) (q h)) n (λ h l. ap (λ (b : Bool). only b (q h)) (none h l)));
     held = λ i l t. absurd (clash (done i) t (none i l));
     blank = λ m _. z m;
   }
@@ -48,42 +48,42 @@ module _ (n : ℕ) (v q row : ℕ → ℕ) (le : ℕ → ℕ → Bool) where
 
   module _ {done done' : ℕ → Bool} {sum : ℕ} {out : ℕ → ℕ} (c : Carrying done sum out) {j : ℕ} (x : Next done done' j) where
     -- the sum with j in it
-    with-next : sum + q j ≡ sumBelow (λ h. only (done' h) (q h)) n
-    with-next =
+    with_next : sum + q j ≡ sum_below (λ h. only (done' h) (q h)) n
+    with_next =
         omega (
           arith,
           c.carried,
-          sum-at (λ h. only (done' h) (q h)) (λ h. only (done h) (q h)) n j x.inside (λ h _ ne. ap (λ (b : Bool). only b (q h)) (x.else h ne)),
+          sum_at (λ h. only (done' h) (q h)) (λ h. only (done h) (q h)) n j x.inside (λ h _ ne. ap (λ (b : Bool). only b (q h)) (x.else h ne)),
           ap (λ (b : Bool). only b (q j)) x.now,
           ap (λ (b : Bool). only b (q j)) x.new,
         )
 
     -- it fits where all that the places add does
-    pub next-fits : (k m bound : ℕ) → n ≤ m → m * 2 ^ k ≤ bound → ((h : ℕ) → q h < 2 ^ k) → sum + q j < bound
-    next-fits k m bound few fits short =
-        rw with-next
-        (lt_of_le_of_lt (sum-le-sum (λ h. only (done' h) (q h)) q n (λ h _. only-within (done' h) (q h)))
-        (lt_of_lt_of_le (lt_of_le_of_lt (sum-mono q n m few) (sum-below k q m short (omega (arith, x.inside)))) fits))
+    pub next_fits : (k m bound : ℕ) → n ≤ m → m * 2 ^ k ≤ bound → ((h : ℕ) → q h < 2 ^ k) → sum + q j < bound
+    next_fits k m bound few fits short =
+        rw with_next
+        (lt_of_le_of_lt (sum_le_sum (λ h. only (done' h) (q h)) q n (λ h _. only_within (done' h) (q h)))
+        (lt_of_lt_of_le (lt_of_le_of_lt (sum_mono q n m few) (sum_below_lem k q m short (omega (arith, x.inside)))) fits))
 
     module _ {out' : ℕ → ℕ} (stored : out' (row j) ≡ sum + q j) (others : (m : ℕ) → m ≢ row j → out' m ≡ out m) where
-      in-row : (i : ℕ) → i < n → row i ≡ row j → out' (row i) ≡ sumBelow (λ h. only (done' h && le (v h) (v i)) (q h)) n
-      in-row i l e =
-          ap out' e ∙ stored ∙ with-next
-          ∙ sum-same (λ h. only (done' h) (q h)) (λ h. only (done' h && le (v h) (v i)) (q h)) n
-          (λ h g. only-and (done' h) (le (v h) (v i)) (q h) (λ t. ap (le (v h)) (x.same i l e) ∙ x.order h g t))
+      in_row : (i : ℕ) → i < n → row i ≡ row j → out' (row i) ≡ sum_below (λ h. only (done' h && le (v h) (v i)) (q h)) n
+      in_row i l e =
+          ap out' e ∙ stored ∙ with_next
+          ∙ sum_same (λ h. only (done' h) (q h)) (λ h. only (done' h && le (v h) (v i)) (q h)) n
+          (λ h g. only_and (done' h) (le (v h) (v i)) (q h) (λ t. ap (le (v h)) (x.same i l e) ∙ x.order h g t))
 
-      elsewhere : (i : ℕ) → i < n → done i ≡ true → row i ≢ row j → out' (row i) ≡ sumBelow (λ h. only (done' h && le (v h) (v i)) (q h)) n
+      elsewhere : (i : ℕ) → i < n → done i ≡ true → row i ≢ row j → out' (row i) ≡ sum_below (λ h. only (done' h && le (v h) (v i)) (q h)) n
       elsewhere i l t ne =
           others (row i) ne ∙ c.held i l t
-          ∙ sum-same (λ h. only (done h && le (v h) (v i)) (q h)) (λ h. only (done' h && le (v h) (v i)) (q h)) n (λ h _. go h (ℕ_discrete h j))
+          ∙ sum_same (λ h. only (done h && le (v h) (v i)) (q h)) (λ h. only (done' h && le (v h) (v i)) (q h)) n (λ h _. go h (ℕ_discrete h j))
         where
           go : (h : ℕ) → Dec (h ≡ j) → only (done h && le (v h) (v i)) (q h) ≡ only (done' h && le (v h) (v i)) (q h)
           go h (yes e) = rw (e, x.new, x.now, x.apart i l t ne)
           go h (no e) = rw (x.else h e)
 
-      pub carrying-more : (sum' : ℕ) → sum' ≡ sum + q j → Carrying done' sum' out'
-      carrying-more sum' e = record {
-        carried = e ∙ with-next;
+      pub carrying_more : (sum' : ℕ) → sum' ≡ sum + q j → Carrying done' sum' out'
+      carrying_more sum' e = record {
+        carried = e ∙ with_next;
         held = λ i l t. go i l t (ℕ_discrete (row i) (row j));
         blank = λ m none. others m (λ f. none j x.inside x.now (sym f)) ∙ c.blank m (λ i l t. none i l (kept i t));
       }
@@ -94,16 +94,16 @@ module _ (n : ℕ) (v q row : ℕ → ℕ) (le : ℕ → ℕ → Bool) where
           was : (i : ℕ) → done' i ≡ true → row i ≢ row j → done i ≡ true
           was i t ne = sym (x.else i (λ f. ne (ap row f))) ∙ t
 
-          go : (i : ℕ) → i < n → done' i ≡ true → Dec (row i ≡ row j) → out' (row i) ≡ sumBelow (λ h. only (done' h && le (v h) (v i)) (q h)) n
-          go i l t (yes f) = in-row i l f
+          go : (i : ℕ) → i < n → done' i ≡ true → Dec (row i ≡ row j) → out' (row i) ≡ sum_below (λ h. only (done' h && le (v h) (v i)) (q h)) n
+          go i l t (yes f) = in_row i l f
           go i l t (no f) = elsewhere i l (was i t f) f
 
   -- all done: each row holds the total up to its value
   module _ {done : ℕ → Bool} {sum : ℕ} {out : ℕ → ℕ} (c : Carrying done sum out) (all : (h : ℕ) → h < n → done h ≡ true) where
-    pub total-held : (i : ℕ) → i < n → out (row i) ≡ sumBelow (λ h. only (le (v h) (v i)) (q h)) n
-    total-held i l =
+    pub total_held : (i : ℕ) → i < n → out (row i) ≡ sum_below (λ h. only (le (v h) (v i)) (q h)) n
+    total_held i l =
         c.held i l (all i l)
-        ∙ sum-same (λ h. only (done h && le (v h) (v i)) (q h)) (λ h. only (le (v h) (v i)) (q h)) n (λ h g. ap (λ (b : Bool). only (b && le (v h) (v i)) (q h)) (all h g))
+        ∙ sum_same (λ h. only (done h && le (v h) (v i)) (q h)) (λ h. only (le (v h) (v i)) (q h)) n (λ h g. ap (λ (b : Bool). only (b && le (v h) (v i)) (q h)) (all h g))
 
-    pub none-held : (m : ℕ) → ((i : ℕ) → i < n → row i < m) → out m ≡ 0
-    none-held m h = c.blank m (λ i l t e. omega (arith, h i l))
+    pub none_held : (m : ℕ) → ((i : ℕ) → i < n → row i < m) → out m ≡ 0
+    none_held m h = c.blank m (λ i l t e. omega (arith, h i l))

@@ -9,77 +9,77 @@ use native.Mathlib.Omega.{arith}
 use lib.Dec.{ltb, leb, eqb}
 use lib.ListN.{length}
 use borrow.Author.Tests.{lt-ltb, le-ltb, le-leb, lt-leb, eq-eqb, ne_eqb, ltb-true, ltb-false, eqb-true, eqb-false}
-use Rattle.laws.specs.Sums.{sumOf}
+use Rattle.laws.specs.Sums.{sum_of}
 use Rattle.laws.specs.Lists.{table}
 use Rattle.laws.specs.Checks.{unless, ◌then◌}
-use Rattle.credit_math.specs.Limits.{maxOrders}
-use Rattle.credit_math.specs.Error.{invalidInput, overAllocation, badLength}
-use Rattle.credit_math.specs.ProRata.{proRataRefusal, allocateProRata}
+use Rattle.credit_math.specs.Limits.{max_orders}
+use Rattle.credit_math.specs.Error.{invalid_input, over_allocation, bad_length}
+use Rattle.credit_math.specs.ProRata.{pro_rata_refusal, allocate_pro_rata}
 use Rattle.credit_math.specs.Steps.{lot}
-use Rattle.credit_math.proofs.Sorted.{lots-table}
+use Rattle.credit_math.proofs.Sorted.{lots_table}
 
 -- what the code's tests say, of a number w that is the sum and a number x that is the total
 module _ {w sum : ℕ} (is : w ≡ sum) where
-  pub is-above : {x total : ℕ} → x ≡ total → (b : Bool) → b ≡ ltb w x → b ≡ true → sum < total
-  is-above {x} {total} asked b less t = omega (arith, ltb-true w x (sym less ∙ t))
+  pub is_above : {x total : ℕ} → x ≡ total → (b : Bool) → b ≡ ltb w x → b ≡ true → sum < total
+  is_above {x} {total} asked b less t = omega (arith, ltb-true w x (sym less ∙ t))
 
-  pub is-within : {x total : ℕ} → x ≡ total → (b : Bool) → b ≡ ltb w x → b ≡ false → total ≤ sum
-  is-within {x} {total} asked b less t = omega (arith, ltb-false w x (sym less ∙ t))
+  pub is_within : {x total : ℕ} → x ≡ total → (b : Bool) → b ≡ ltb w x → b ≡ false → total ≤ sum
+  is_within {x} {total} asked b less t = omega (arith, ltb-false w x (sym less ∙ t))
 
-  pub is-none : (b : Bool) → b ≡ eqb w 0 → b ≡ true → sum ≡ 0
-  is-none b zero t = sym is ∙ eqb-true w 0 (sym zero ∙ t)
+  pub is_none : (b : Bool) → b ≡ eqb w 0 → b ≡ true → sum ≡ 0
+  is_none b zero t = sym is ∙ eqb-true w 0 (sym zero ∙ t)
 
-  pub is-some : (b : Bool) → b ≡ eqb w 0 → b ≡ false → sum ≡ 0 → ⊥
-  is-some b zero t e = eqb-false w 0 (sym zero ∙ t) (is ∙ e)
+  pub is_some : (b : Bool) → b ≡ eqb w 0 → b ≡ false → sum ≡ 0 → ⊥
+  is_some b zero t e = eqb-false w 0 (sym zero ∙ t) (is ∙ e)
 
 module _ (ids qtys : List ℕ) (room total : ℕ) where
-  pub too-many : maxOrders < length qtys → proRataRefusal ids qtys room total ≡ badLength
-  unfolding proRataRefusal unless ◌then◌
-  too-many h = simp (lt-leb (length qtys) maxOrders h)
+  pub too_many : max_orders < length qtys → pro_rata_refusal ids qtys room total ≡ bad_length
+  unfolding pro_rata_refusal unless ◌then◌
+  too_many h = simp (lt-leb (length qtys) max_orders h)
 
-  module _ (few : length qtys ≤ maxOrders) where
-    pub other-ids : (length ids ≡ length qtys → ⊥) → proRataRefusal ids qtys room total ≡ badLength
-    unfolding proRataRefusal unless ◌then◌
-    other-ids h = simp (le-leb (length qtys) maxOrders few, ne_eqb (length ids) (length qtys) h)
+  module _ (few : length qtys ≤ max_orders) where
+    pub other_ids : (length ids ≡ length qtys → ⊥) → pro_rata_refusal ids qtys room total ≡ bad_length
+    unfolding pro_rata_refusal unless ◌then◌
+    other_ids h = simp (le-leb (length qtys) max_orders few, ne_eqb (length ids) (length qtys) h)
 
-    module _ (ids-too : length ids ≡ length qtys) where
-      pub other-room : (room ≡ length qtys → ⊥) → proRataRefusal ids qtys room total ≡ badLength
-      unfolding proRataRefusal unless ◌then◌
-      other-room h = simp (le-leb (length qtys) maxOrders few, eq-eqb (length ids) (length qtys) ids-too, ne_eqb room (length qtys) h)
+    module _ (ids_too : length ids ≡ length qtys) where
+      pub other_room : (room ≡ length qtys → ⊥) → pro_rata_refusal ids qtys room total ≡ bad_length
+      unfolding pro_rata_refusal unless ◌then◌
+      other_room h = simp (le-leb (length qtys) max_orders few, eq-eqb (length ids) (length qtys) ids_too, ne_eqb room (length qtys) h)
 
-      module _ (room-too : room ≡ length qtys) where
+      module _ (room_too : room ≡ length qtys) where
         -- lists of one length are left to the checks of the total
-        past-lengths : proRataRefusal ids qtys room total
-            ≡ (unless (not (ltb 0 total && eqb (sumOf qtys) 0)) invalidInput then unless (leb total (sumOf qtys)) overAllocation)
-        unfolding proRataRefusal unless ◌then◌
-        past-lengths = simp (le-leb (length qtys) maxOrders few, eq-eqb (length ids) (length qtys) ids-too, eq-eqb room (length qtys) room-too)
+        past_lengths : pro_rata_refusal ids qtys room total
+            ≡ (unless (not (ltb 0 total && eqb (sum_of qtys) 0)) invalid_input then unless (leb total (sum_of qtys)) over_allocation)
+        unfolding pro_rata_refusal unless ◌then◌
+        past_lengths = simp (le-leb (length qtys) max_orders few, eq-eqb (length ids) (length qtys) ids_too, eq-eqb room (length qtys) room_too)
 
-        pub nothing-to-share : sumOf qtys < total → sumOf qtys ≡ 0 → proRataRefusal ids qtys room total ≡ invalidInput
+        pub nothing_to_share : sum_of qtys < total → sum_of qtys ≡ 0 → pro_rata_refusal ids qtys room total ≡ invalid_input
         unfolding unless ◌then◌
-        nothing-to-share h e = past-lengths ∙ simp (lt-ltb 0 total (omega arith), eq-eqb (sumOf qtys) 0 e)
+        nothing_to_share h e = past_lengths ∙ simp (lt-ltb 0 total (omega arith), eq-eqb (sum_of qtys) 0 e)
 
-        pub above-sum : sumOf qtys < total → (sumOf qtys ≡ 0 → ⊥) → proRataRefusal ids qtys room total ≡ overAllocation
+        pub above_sum : sum_of qtys < total → (sum_of qtys ≡ 0 → ⊥) → pro_rata_refusal ids qtys room total ≡ over_allocation
         unfolding unless ◌then◌
-        above-sum h e = past-lengths ∙ simp (lt-ltb 0 total (omega arith), ne_eqb (sumOf qtys) 0 e, lt-leb total (sumOf qtys) h)
+        above_sum h e = past_lengths ∙ simp (lt-ltb 0 total (omega arith), ne_eqb (sum_of qtys) 0 e, lt-leb total (sum_of qtys) h)
 
-        pub in-sum : total ≤ sumOf qtys → proRataRefusal ids qtys room total ≡ 0
+        pub in_sum : total ≤ sum_of qtys → pro_rata_refusal ids qtys room total ≡ 0
         unfolding unless ◌then◌
-        in-sum h =
-            past-lengths
-            ∙ ⊎_elim (λ (e : total ≡ 0). simp (le-ltb 0 total (omega arith), le-leb total (sumOf qtys) h))
-            (λ (p : 0 < total). simp (lt-ltb 0 total p, ne_eqb (sumOf qtys) 0 (λ e. omega arith), le-leb total (sumOf qtys) h))
+        in_sum h =
+            past_lengths
+            ∙ ⊎_elim (λ (e : total ≡ 0). simp (le-ltb 0 total (omega arith), le-leb total (sum_of qtys) h))
+            (λ (p : 0 < total). simp (lt-ltb 0 total p, ne_eqb (sum_of qtys) 0 (λ e. omega arith), le-leb total (sum_of qtys) h))
             (eq-zero-or-pos total)
 
 -- what the output then holds
 module _ (ids qtys out : List ℕ) (total : ℕ) where
   -- a refusal leaves it as it was
-  pub refused : (n : ℕ) → proRataRefusal ids qtys (length out) total ≡ n → eqb n 0 ≡ false
-      → (n ≡ proRataRefusal ids qtys (length out) total) × (out ≡ allocateProRata ids qtys total out)
-  unfolding allocateProRata
+  pub refused : (n : ℕ) → pro_rata_refusal ids qtys (length out) total ≡ n → eqb n 0 ≡ false
+      → (n ≡ pro_rata_refusal ids qtys (length out) total) × (out ≡ allocate_pro_rata ids qtys total out)
+  unfolding allocate_pro_rata
   refused n e z = (sym e, rw (e, z))
 
   -- and else it holds the lots
-  pub accepted : (out' : List ℕ) → proRataRefusal ids qtys (length out) total ≡ 0 → out' ≡ table (lot ids qtys total) (length qtys)
-      → (0 ≡ proRataRefusal ids qtys (length out) total) × (out' ≡ allocateProRata ids qtys total out)
-  unfolding allocateProRata
-  accepted out' e z = (sym e, rw e (z ∙ sym (lots-table ids qtys total)))
+  pub accepted : (out' : List ℕ) → pro_rata_refusal ids qtys (length out) total ≡ 0 → out' ≡ table (lot ids qtys total) (length qtys)
+      → (0 ≡ pro_rata_refusal ids qtys (length out) total) × (out' ≡ allocate_pro_rata ids qtys total out)
+  unfolding allocate_pro_rata
+  accepted out' e z = (sym e, rw e (z ∙ sym (lots_table ids qtys total)))

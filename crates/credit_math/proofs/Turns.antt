@@ -9,37 +9,37 @@ use lib.ListN.{length, get_or}
 use borrow.Author.Tests.{lt-ltb, le-ltb, ltb-true, ltb-false}
 use Rattle.laws.specs.Sums.{count}
 use Rattle.laws.specs.Lex.{lex}
-use Rattle.laws.proofs.Sums.{count-mono}
-use Rattle.laws.proofs.Lex.{lex-same, lex-trans, lex-total, lex-below, lex-false}
+use Rattle.laws.proofs.Sums.{count_mono}
+use Rattle.laws.proofs.Lex.{lex_same, lex_trans, lex_total, lex_below, lex_false}
 use Rattle.credit_math.specs.ProRata.{precedes}
 use Rattle.credit_math.specs.Steps.{before, rank}
 
 module _ (ids qtys : List ℕ) where
-  pub before-irrefl : (i : ℕ) → before ids qtys i i ≡ false
+  pub before_irrefl : (i : ℕ) → before ids qtys i i ≡ false
   unfolding before
-  before-irrefl i = lex-same (get_or qtys i 0) _ ∙ lex-same (get_or ids i 0) _ ∙ le-ltb i i (le_refl i)
+  before_irrefl i = lex_same (get_or qtys i 0) _ ∙ lex_same (get_or ids i 0) _ ∙ le-ltb i i (le_refl i)
 
-  pub before-trans : (i j k : ℕ) → before ids qtys i j ≡ true → before ids qtys j k ≡ true → before ids qtys i k ≡ true
+  pub before_trans : (i j k : ℕ) → before ids qtys i j ≡ true → before ids qtys j k ≡ true → before ids qtys i k ≡ true
   unfolding before
-  before-trans i j k h m =
-      lex-trans (get_or qtys k 0) (get_or qtys j 0) (get_or qtys i 0) _ _ _
-      (λ y x. lex-trans (get_or ids i 0) (get_or ids j 0) (get_or ids k 0) _ _ _ (λ u v. lt-ltb i k (lt_trans (ltb-true i j u) (ltb-true j k v))) x y) m h
+  before_trans i j k h m =
+      lex_trans (get_or qtys k 0) (get_or qtys j 0) (get_or qtys i 0) _ _ _
+      (λ y x. lex_trans (get_or ids i 0) (get_or ids j 0) (get_or ids k 0) _ _ _ (λ u v. lt-ltb i k (lt_trans (ltb-true i j u) (ltb-true j k v))) x y) m h
 
-  pub before-total : (i j : ℕ) → before ids qtys i j ≡ false → before ids qtys j i ≡ false → i ≡ j
+  pub before_total : (i j : ℕ) → before ids qtys i j ≡ false → before ids qtys j i ≡ false → i ≡ j
   unfolding before
-  before-total i j h k =
-      let a = lex-total (get_or qtys j 0) (get_or qtys i 0) _ _ h k in
-      let b = lex-total (get_or ids i 0) (get_or ids j 0) _ _ a.1 a.2 in
+  before_total i j h k =
+      let a = lex_total (get_or qtys j 0) (get_or qtys i 0) _ _ h k in
+      let b = lex_total (get_or ids i 0) (get_or ids j 0) _ _ a.1 a.2 in
       le_antisymm (ltb-false j i b.2) (ltb-false i j b.1)
 
   -- a later place comes first by quantity or id alone
-  pub before-later : (i j : ℕ) → i < j → before ids qtys j i ≡ precedes ids qtys j i
+  pub before_later : (i j : ℕ) → i < j → before ids qtys j i ≡ precedes ids qtys j i
   unfolding before precedes
-  before-later i j h = ap (lex (get_or qtys i 0) (get_or qtys j 0)) (ap (lex (get_or ids j 0) (get_or ids i 0)) (le-ltb j i (le_of_lt h)) ∙ lex-false (get_or ids j 0) (get_or ids i 0))
+  before_later i j h = ap (lex (get_or qtys i 0) (get_or qtys j 0)) (ap (lex (get_or ids j 0) (get_or ids i 0)) (le-ltb j i (le_of_lt h)) ∙ lex_false (get_or ids j 0) (get_or ids i 0))
 
   -- a place of quantity 0 comes after all that have one
-  pub empty-last : (i : ℕ) → get_or qtys i 0 ≡ 0 → count (λ j. ltb 0 (get_or qtys j 0)) (length qtys) ≤ rank ids qtys i
+  pub empty_last : (i : ℕ) → get_or qtys i 0 ≡ 0 → count (λ j. ltb 0 (get_or qtys j 0)) (length qtys) ≤ rank ids qtys i
   unfolding rank before
-  empty-last i e =
-      count-mono (λ j. ltb 0 (get_or qtys j 0)) (λ j. before ids qtys j i) (length qtys)
-      (λ j _ t. lex-below (get_or qtys i 0) (get_or qtys j 0) _ (subst (λ (x : ℕ). x < get_or qtys j 0) (sym e) (ltb-true 0 (get_or qtys j 0) t)))
+  empty_last i e =
+      count_mono (λ j. ltb 0 (get_or qtys j 0)) (λ j. before ids qtys j i) (length qtys)
+      (λ j _ t. lex_below (get_or qtys i 0) (get_or qtys j 0) _ (subst (λ (x : ℕ). x < get_or qtys j 0) (sym e) (ltb-true 0 (get_or qtys j 0) t)))

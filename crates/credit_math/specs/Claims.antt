@@ -1,55 +1,55 @@
 -- What is proved of the definitions: proofs/Rounding.antt, proofs/PriceTheorems.antt, proofs/TableTheorems.antt and proofs/ProRataTheorems.antt.
 use Rattle.std.specs.Prelude.{◌≡◌, ◌≢◌, ◌↔◌, Bool, true, List, ℕ, ◌+◌, ◌*◌, ◌^◌, ◌≤◌, ◌<◌, ltb, length, get_or}
-use Rattle.laws.specs.Sums.{sumBelow, only, count, sumOf}
+use Rattle.laws.specs.Sums.{sum_below, only, count, sum_of}
 use Rattle.laws.specs.Lists.{Member}
-use Rattle.credit_math.specs.Limits.{maxOrders, sideBits, volumeBits}
-use Rattle.credit_math.specs.Error.{badLength, noCross}
-use Rattle.credit_math.specs.Rounding.{ceilDiv}
-use Rattle.credit_math.specs.Price.{buy, sell, executed, better, priceRefusal, findUniformClearPrice, Found, refused, failed, cross}
-use Rattle.credit_math.specs.SideTotals.{Table, sideTotals}
+use Rattle.credit_math.specs.Limits.{max_orders, side_bits, volume_bits}
+use Rattle.credit_math.specs.Error.{bad_length, no_cross}
+use Rattle.credit_math.specs.Rounding.{ceil_div}
+use Rattle.credit_math.specs.Price.{buy, sell, executed, better, price_refusal, find_uniform_clear_price, Found, refused, failed, cross}
+use Rattle.credit_math.specs.SideTotals.{Table, side_totals}
 use Rattle.credit_math.specs.ProRata.{share, remainder, shares, remainders, residue, lots}
 
 -- 'rounded up': of the numbers that, times b, come to a or more, the least
 pub record RoundsUp (a b : ℕ) : Type 0 where
-  pub enough : a ≤ ceilDiv a b * b
-  pub least : (m : ℕ) → a ≤ m * b → ceilDiv a b ≤ m
+  pub enough : a ≤ ceil_div a b * b
+  pub least : (m : ℕ) → a ≤ m * b → ceil_div a b ≤ m
 
 -- two tables have the same rows; what stands behind these is not asked
 pub record SameRows (t u : Table) : Type 0 where
   pub counts : t.count ≡ u.count
-  pub limits-too : (k : ℕ) → k < t.count → get_or t.limits k 0 ≡ get_or u.limits k 0
-  pub buys-too : (k : ℕ) → k < t.count → get_or t.buys k 0 ≡ get_or u.buys k 0
-  pub sells-too : (k : ℕ) → k < t.count → get_or t.sells k 0 ≡ get_or u.sells k 0
+  pub limits_too : (k : ℕ) → k < t.count → get_or t.limits k 0 ≡ get_or u.limits k 0
+  pub buys_too : (k : ℕ) → k < t.count → get_or t.buys k 0 ≡ get_or u.buys k 0
+  pub sells_too : (k : ℕ) → k < t.count → get_or t.sells k 0 ≡ get_or u.sells k 0
 
-module _ (isBuy : List Bool) (limits qtys : List ℕ) where
+module _ (is_buy : List Bool) (limits qtys : List ℕ) where
   -- p is a candidate, an order's limit at or above the reserve, and executes something
   pub record Executes (reserve p : ℕ) : Type 0 where
     pub limit : Member p limits
     pub floor : reserve ≤ p
-    pub some : 0 < executed isBuy limits qtys p
+    pub some : 0 < executed is_buy limits qtys p
 
   -- the best price: it executes something, and is better than any other that does
   pub record BestPrice (reserve reference p : ℕ) : Type 0 where
     pub executes : Executes reserve p
-    pub beats : (q : ℕ) → Executes reserve q → q ≢ p → better isBuy limits qtys reference p q ≡ true
+    pub beats : (q : ℕ) → Executes reserve q → q ≢ p → better is_buy limits qtys reference p q ≡ true
 
   -- what the search must answer, one of three
   pub data RightPrice (reserve reference : ℕ) (answer : Found) : Type 0 where
     -- '30 over 16 entries or lent slices of unequal length'
-    turned-away : priceRefusal isBuy limits qtys ≡ badLength → answer ≡ refused badLength → RightPrice reserve reference answer
+    turned_away : price_refusal is_buy limits qtys ≡ bad_length → answer ≡ refused bad_length → RightPrice reserve reference answer
     -- NoCross where no candidate executes anything
-    no-cross : priceRefusal isBuy limits qtys ≡ 0 → ((p : ℕ) → Executes reserve p → ⊥) → answer ≡ failed noCross → RightPrice reserve reference answer
+    no_crossing : price_refusal is_buy limits qtys ≡ 0 → ((p : ℕ) → Executes reserve p → ⊥) → answer ≡ failed no_cross → RightPrice reserve reference answer
     -- otherwise the best price, with its executed quantity
-    cross-at : priceRefusal isBuy limits qtys ≡ 0 → (p : ℕ) → BestPrice reserve reference p → answer ≡ cross p (executed isBuy limits qtys p) → RightPrice reserve reference answer
+    cross_at : price_refusal is_buy limits qtys ≡ 0 → (p : ℕ) → BestPrice reserve reference p → answer ≡ cross p (executed is_buy limits qtys p) → RightPrice reserve reference answer
 
   -- the search is right, for all lists, reserves and references, and no other answer would be
   pub record PriceIsRight (reserve reference : ℕ) : Type 0 where
-    pub right : RightPrice reserve reference (findUniformClearPrice isBuy limits qtys reserve reference)
-    pub one-best : (p q : ℕ) → BestPrice reserve reference p → BestPrice reserve reference q → p ≡ q
-    pub one-answer : (a : Found) → RightPrice reserve reference a → a ≡ findUniformClearPrice isBuy limits qtys reserve reference
+    pub right : RightPrice reserve reference (find_uniform_clear_price is_buy limits qtys reserve reference)
+    pub one_best : (p q : ℕ) → BestPrice reserve reference p → BestPrice reserve reference q → p ≡ q
+    pub one_answer : (a : Found) → RightPrice reserve reference a → a ≡ find_uniform_clear_price is_buy limits qtys reserve reference
     -- NoCross exactly where no candidate executes anything
-    pub no-cross-exactly : priceRefusal isBuy limits qtys ≡ 0
-        → (findUniformClearPrice isBuy limits qtys reserve reference ≡ failed noCross) ↔ ((p : ℕ) → Executes reserve p → ⊥)
+    pub no_cross_exactly : price_refusal is_buy limits qtys ≡ 0
+        → (find_uniform_clear_price is_buy limits qtys reserve reference ≡ failed no_cross) ↔ ((p : ℕ) → Executes reserve p → ⊥)
 
   -- a table as document 02 has it
   pub record RightTable (t : Table) : Type 0 where
@@ -58,32 +58,32 @@ module _ (isBuy : List Bool) (limits qtys : List ℕ) where
     -- 'ascending, each once'
     pub ascending : (i k : ℕ) → i < k → k < t.count → get_or t.limits i 0 < get_or t.limits k 0
     -- 'every total must equal the file-order sum of document 01'
-    pub buys : (k : ℕ) → k < t.count → get_or t.buys k 0 ≡ buy isBuy limits qtys (get_or t.limits k 0)
-    pub sells : (k : ℕ) → k < t.count → get_or t.sells k 0 ≡ sell isBuy limits qtys (get_or t.limits k 0)
+    pub buys : (k : ℕ) → k < t.count → get_or t.buys k 0 ≡ buy is_buy limits qtys (get_or t.limits k 0)
+    pub sells : (k : ℕ) → k < t.count → get_or t.sells k 0 ≡ sell is_buy limits qtys (get_or t.limits k 0)
 
   -- the table is right where the orders are not refused, and has no row and no figure where they are
   pub record TableIsRight : Type 0 where
-    pub right : priceRefusal isBuy limits qtys ≡ 0 → RightTable (sideTotals isBuy limits qtys)
+    pub right : price_refusal is_buy limits qtys ≡ 0 → RightTable (side_totals is_buy limits qtys)
     -- and no other rows would be
-    pub one-table : priceRefusal isBuy limits qtys ≡ 0 → (t : Table) → RightTable t → SameRows t (sideTotals isBuy limits qtys)
-    pub no-row : priceRefusal isBuy limits qtys ≢ 0 → (sideTotals isBuy limits qtys).count ≡ 0
-    pub no-figure : priceRefusal isBuy limits qtys ≢ 0 → (k : ℕ)
-        → (get_or (sideTotals isBuy limits qtys).limits k 0 ≡ 0) × (get_or (sideTotals isBuy limits qtys).buys k 0 ≡ 0) × (get_or (sideTotals isBuy limits qtys).sells k 0 ≡ 0)
+    pub one_table : price_refusal is_buy limits qtys ≡ 0 → (t : Table) → RightTable t → SameRows t (side_totals is_buy limits qtys)
+    pub no_row : price_refusal is_buy limits qtys ≢ 0 → (side_totals is_buy limits qtys).count ≡ 0
+    pub no_figure : price_refusal is_buy limits qtys ≢ 0 → (k : ℕ)
+        → (get_or (side_totals is_buy limits qtys).limits k 0 ≡ 0) × (get_or (side_totals is_buy limits qtys).buys k 0 ≡ 0) × (get_or (side_totals is_buy limits qtys).sells k 0 ≡ 0)
 
   -- the sums that are carried along are of some of the orders: of n orders with quantities of k bits they stay below n × 2 ^ k, whichever orders, and for
   -- every n and k
   abbrev pub RunningSumsFit : Type 0
-  RunningSumsFit = (n k : ℕ) → 0 < n → length isBuy ≤ n → ((i : ℕ) → get_or qtys i 0 < 2 ^ k) → (some : ℕ → Bool)
-      → sumBelow (λ i. only (some i) (get_or qtys i 0)) (length isBuy) < n * 2 ^ k
+  RunningSumsFit = (n k : ℕ) → 0 < n → length is_buy ≤ n → ((i : ℕ) → get_or qtys i 0 < 2 ^ k) → (some : ℕ → Bool)
+      → sum_below (λ i. only (some i) (get_or qtys i 0)) (length is_buy) < n * 2 ^ k
 
-  -- 'Side totals may reach 68 bits, the volume 67': not more, for at most maxOrders orders of 64-bit quantities
+  -- 'Side totals may reach 68 bits, the volume 67': not more, for at most max_orders orders of 64-bit quantities
   pub record WithinBits : Type 0 where
-    pub buys : (p : ℕ) → buy isBuy limits qtys p < 2 ^ sideBits
-    pub sells : (p : ℕ) → sell isBuy limits qtys p < 2 ^ sideBits
-    pub volume : (p : ℕ) → executed isBuy limits qtys p < 2 ^ volumeBits
+    pub buys : (p : ℕ) → buy is_buy limits qtys p < 2 ^ side_bits
+    pub sells : (p : ℕ) → sell is_buy limits qtys p < 2 ^ side_bits
+    pub volume : (p : ℕ) → executed is_buy limits qtys p < 2 ^ volume_bits
 
   abbrev pub TotalsFit : Type 0
-  TotalsFit = length isBuy ≤ maxOrders → ((i : ℕ) → get_or qtys i 0 < 2 ^ 64) → WithinBits
+  TotalsFit = length is_buy ≤ max_orders → ((i : ℕ) → get_or qtys i 0 < 2 ^ 64) → WithinBits
 
 -- a share and its remainder, as document 02 has them
 pub record RightShare (total sum qty quotient rest : ℕ) : Type 0 where
@@ -97,30 +97,30 @@ pub record RightShare (total sum qty quotient rest : ℕ) : Type 0 where
 -- the share is right for every total, sum and quantity; and since 28 leaves no sum of 0 but with total 0, no other two numbers would be
 pub record ShareIsRight (total sum qty : ℕ) : Type 0 where
   pub right : RightShare total sum qty (share total sum qty) (remainder total sum qty)
-  pub one-share : (sum ≡ 0 → total ≡ 0) → (quotient rest : ℕ) → RightShare total sum qty quotient rest
+  pub one_share : (sum ≡ 0 → total ≡ 0) → (quotient rest : ℕ) → RightShare total sum qty quotient rest
       → (quotient ≡ share total sum qty) × (rest ≡ remainder total sum qty)
 
 -- what the rounding takes of all shares: for every list and every total, also one above the sum
 pub record RightRemainders (qtys : List ℕ) (total : ℕ) : Type 0 where
   -- one remainder for each quantity, that of its share
-  pub length-is : length (remainders qtys total) ≡ length qtys
+  pub length_is : length (remainders qtys total) ≡ length qtys
   pub each : (i : ℕ) → i < length qtys
-      → RightShare total (sumOf qtys) (get_or qtys i 0) (get_or (shares qtys total) i 0) (get_or (remainders qtys total) i 0)
+      → RightShare total (sum_of qtys) (get_or qtys i 0) (get_or (shares qtys total) i 0) (get_or (remainders qtys total) i 0)
   -- 'the residue times the sum equals all remainders added'
-  pub added : residue qtys total * sumOf qtys ≡ sumOf (remainders qtys total)
+  pub added : residue qtys total * sum_of qtys ≡ sum_of (remainders qtys total)
 
 -- the lots of a total within the sum
 pub record RightLots (ids qtys : List ℕ) (total : ℕ) : Type 0 where
   -- one for each quantity
-  pub length-is : length (lots ids qtys total) ≡ length qtys
+  pub length_is : length (lots ids qtys total) ≡ length qtys
   -- shares are floors: a lot is its share or one unit more
-  pub low : (i : ℕ) → i < length qtys → share total (sumOf qtys) (get_or qtys i 0) ≤ get_or (lots ids qtys total) i 0
-  pub high : (i : ℕ) → i < length qtys → get_or (lots ids qtys total) i 0 ≤ share total (sumOf qtys) (get_or qtys i 0) + 1
+  pub low : (i : ℕ) → i < length qtys → share total (sum_of qtys) (get_or qtys i 0) ≤ get_or (lots ids qtys total) i 0
+  pub high : (i : ℕ) → i < length qtys → get_or (lots ids qtys total) i 0 ≤ share total (sum_of qtys) (get_or qtys i 0) + 1
   -- the residue is below the number of entries with a quantity
-  pub residue-small : 0 < sumOf qtys → residue qtys total < count (λ i. ltb 0 (get_or qtys i 0)) (length qtys)
+  pub residue_small : 0 < sum_of qtys → residue qtys total < count (λ i. ltb 0 (get_or qtys i 0)) (length qtys)
   -- lots add up to the total, none above its quantity
-  pub adds-up : sumOf (lots ids qtys total) ≡ total
+  pub adds_up : sum_of (lots ids qtys total) ≡ total
   pub within : (i : ℕ) → get_or (lots ids qtys total) i 0 ≤ get_or qtys i 0
 
 abbrev pub LotsAreRight : (ids qtys : List ℕ) (total : ℕ) → Type 0
-LotsAreRight ids qtys total = total ≤ sumOf qtys → RightLots ids qtys total
+LotsAreRight ids qtys total = total ≤ sum_of qtys → RightLots ids qtys total

@@ -2,17 +2,17 @@
 use Rattle.std.specs.Prelude.{ℕ}
 
 -- 28: a total above 0 with sum 0
-abbrev pub invalidInput : ℕ
-invalidInput = 28
+abbrev pub invalid_input : ℕ
+invalid_input = 28
 
 -- 29: a total above the sum
-abbrev pub overAllocation : ℕ
-overAllocation = 29
+abbrev pub over_allocation : ℕ
+over_allocation = 29
 
 -- 30: over 16 entries, or lent slices of unequal length
-abbrev pub badLength : ℕ
-badLength = 30
+abbrev pub bad_length : ℕ
+bad_length = 30
 
 -- 'NoCross 2': no candidate executes anything
-abbrev pub noCross : ℕ
-noCross = 2
+abbrev pub no_cross : ℕ
+no_cross = 2

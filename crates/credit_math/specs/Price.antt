@@ -1,13 +1,13 @@
 -- `find_uniform_clear_price`. The orders stand in three lists, by place: whether one buys, its limit and its quantity.
 use Rattle.std.specs.Prelude.{Bool, true, false, cond, not, ◌&&◌, List, [], ◌∷◌, ℕ, min, ltb, leb, eqb, length, get_or}
-use Rattle.laws.specs.Sums.{sumBelow, only}
+use Rattle.laws.specs.Sums.{sum_below, only}
 use Rattle.laws.specs.Lists.{keep}
 use Rattle.laws.specs.Sort.{sort, dedup}
 use Rattle.laws.specs.Lex.{lex}
 use Rattle.laws.specs.Checks.{unless, ◌then◌}
 use Rattle.wide.specs.Value.{value, apart}
-use Rattle.credit_math.specs.Limits.{maxOrders}
-use Rattle.credit_math.specs.Error.{badLength, noCross}
+use Rattle.credit_math.specs.Limits.{max_orders}
+use Rattle.credit_math.specs.Error.{bad_length, no_cross}
 use Rattle.credit_math.specs.declared.allocation.Clearing.{Clearing}
 use Rattle.credit_math.specs.declared.allocation.Clearing.TheVariants.{Refused, NoCross, Cross}
 
@@ -29,14 +29,14 @@ module _ (counts : ℕ → Bool) (better : ℕ → ℕ → Bool) where
   walk best [] = best
   walk best (p ∷ l) = walk (step best p) l
 
-module _ (isBuy : List Bool) (limits qtys : List ℕ) where
+module _ (is_buy : List Bool) (limits qtys : List ℕ) where
   -- 'buy(p) adds buy quantities with limit ≥ p'
   unfoldable pub buy : ℕ → ℕ
-  buy p = sumBelow (λ i. only (get_or isBuy i false && leb p (get_or limits i 0)) (get_or qtys i 0)) (length isBuy)
+  buy p = sum_below (λ i. only (get_or is_buy i false && leb p (get_or limits i 0)) (get_or qtys i 0)) (length is_buy)
 
   -- 'sell(p) adds sell quantities with limit ≤ p'
   unfoldable pub sell : ℕ → ℕ
-  sell p = sumBelow (λ i. only (not (get_or isBuy i false) && leb (get_or limits i 0) p) (get_or qtys i 0)) (length isBuy)
+  sell p = sum_below (λ i. only (not (get_or is_buy i false) && leb (get_or limits i 0) p) (get_or qtys i 0)) (length is_buy)
 
   -- 'executed is the smaller'
   unfoldable pub executed : ℕ → ℕ
@@ -60,8 +60,8 @@ module _ (isBuy : List Bool) (limits qtys : List ℕ) where
   candidates reserve = dedup (sort ltb (keep (leb reserve) limits))
 
   -- the price that the source's walk over the candidates ends with
-  unfoldable pub clearPrice : (reserve reference : ℕ) → Best
-  clearPrice reserve reference = walk executes (better reference) none (candidates reserve)
+  unfoldable pub clear_price : (reserve reference : ℕ) → Best
+  clear_price reserve reference = walk executes (better reference) none (candidates reserve)
 
 -- what the search answers: a refusal with its number, no price for a reason with its number, or a price with the volume
 pub data Found : Type 0 where
@@ -72,24 +72,24 @@ pub data Found : Type 0 where
 -- the declared answer: this paper's number and values for each of its cases
 abbrev pub found : Clearing → Found
 found (Refused n) = refused n
-found NoCross = failed noCross
+found NoCross = failed no_cross
 found (Cross c) = cross c.clear_price (value c.executed_qty)
 
 -- the price with its executed quantity
 abbrev pub priced : (executed : ℕ → ℕ) → Best → Found
-priced executed none = failed noCross
+priced executed none = failed no_cross
 priced executed (at p) = cross p (executed p)
 
 -- 'Public .. price search | 30 over 16 entries or lent slices of unequal length'
-unfoldable pub priceRefusal : List Bool → List ℕ → List ℕ → ℕ
-priceRefusal isBuy limits qtys =
-    unless (leb (length isBuy) maxOrders) badLength
-    then unless (eqb (length limits) (length isBuy)) badLength
-    then unless (eqb (length qtys) (length isBuy)) badLength
+unfoldable pub price_refusal : List Bool → List ℕ → List ℕ → ℕ
+price_refusal is_buy limits qtys =
+    unless (leb (length is_buy) max_orders) bad_length
+    then unless (eqb (length limits) (length is_buy)) bad_length
+    then unless (eqb (length qtys) (length is_buy)) bad_length
 
 -- the public search: a refusal gives no figure
-unfoldable pub findUniformClearPrice : List Bool → List ℕ → List ℕ → (reserve reference : ℕ) → Found
-findUniformClearPrice isBuy limits qtys reserve reference =
-    cond (eqb (priceRefusal isBuy limits qtys) 0)
-    (priced (executed isBuy limits qtys) (clearPrice isBuy limits qtys reserve reference))
-    (refused (priceRefusal isBuy limits qtys))
+unfoldable pub find_uniform_clear_price : List Bool → List ℕ → List ℕ → (reserve reference : ℕ) → Found
+find_uniform_clear_price is_buy limits qtys reserve reference =
+    cond (eqb (price_refusal is_buy limits qtys) 0)
+    (priced (executed is_buy limits qtys) (clear_price is_buy limits qtys reserve reference))
+    (refused (price_refusal is_buy limits qtys))

@@ -3,5 +3,5 @@ use Rattle.std.specs.Prelude.{not, ℕ, ◌+◌, ◌/◌, ◌%◌, eqb}
 use Rattle.laws.specs.Sums.{only}
 
 -- ⌈a / b⌉: the quotient, and one more unless b divides a. By 0, as in `◌/◌` and `◌%◌`, the quotient is 0 and the remainder a
-unfoldable pub ceilDiv : ℕ → ℕ → ℕ
-ceilDiv a b = a / b + only (not (eqb (a % b) 0)) 1
+unfoldable pub ceil_div : ℕ → ℕ → ℕ
+ceil_div a b = a / b + only (not (eqb (a % b) 0)) 1

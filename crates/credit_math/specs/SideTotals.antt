@@ -2,8 +2,8 @@
 use Rattle.std.specs.Prelude.{Bool, cond, List, [], ◌++◌, map, ℕ, ◌-◌, ltb, eqb, length, replicate}
 use Rattle.laws.specs.Sort.{sort, dedup}
 use Rattle.wide.specs.Value.{value}
-use Rattle.credit_math.specs.Limits.{maxOrders}
-use Rattle.credit_math.specs.Price.{buy, sell, priceRefusal}
+use Rattle.credit_math.specs.Limits.{max_orders}
+use Rattle.credit_math.specs.Price.{buy, sell, price_refusal}
 use Rattle.credit_math.specs.declared.side_totals.SideTotals.{SideTotals}
 
 -- a table in numbers: how many rows it has, and its columns
@@ -14,27 +14,27 @@ pub record Table : Type 0 where
   pub sells : List ℕ
 
 -- the declared table: each total is the number that its two words hold
-abbrev pub tableOf : SideTotals → Table
-tableOf t = record { count = t.count; limits = t.limits; buys = map value t.buys; sells = map value t.sells }
+abbrev pub table_of : SideTotals → Table
+table_of t = record { count = t.count; limits = t.limits; buys = map value t.buys; sells = map value t.sells }
 
 -- 'exactly the orders' limits, ascending, each once': of all orders handed in
-unfoldable pub distinctLimits : List ℕ → List ℕ
-distinctLimits limits = dedup (sort ltb limits)
+unfoldable pub distinct_limits : List ℕ → List ℕ
+distinct_limits limits = dedup (sort ltb limits)
 
 -- a column: what stands beside each limit, and zeros behind the last row
 unfoldable pub column : (ℕ → ℕ) → List ℕ → List ℕ
-column f rows = map f rows ++ replicate (maxOrders - length rows) 0
+column f rows = map f rows ++ replicate (max_orders - length rows) 0
 
-module _ (isBuy : List Bool) (limits qtys : List ℕ) where
+module _ (is_buy : List Bool) (limits qtys : List ℕ) where
   -- 'every total must equal the file-order sum of document 01': beside each limit its buy(p) and its sell(p)
-  unfoldable pub totalsAt : (rows : List ℕ) → Table
-  totalsAt rows = record {
+  unfoldable pub totals_at : (rows : List ℕ) → Table
+  totals_at rows = record {
     count = length rows;
     limits = column (λ p. p) rows;
-    buys = column (buy isBuy limits qtys) rows;
-    sells = column (sell isBuy limits qtys) rows;
+    buys = column (buy is_buy limits qtys) rows;
+    sells = column (sell is_buy limits qtys) rows;
   }
 
   -- the table of the orders; no row where they are refused, as the price search refuses them
-  unfoldable pub sideTotals : Table
-  sideTotals = totalsAt (cond (eqb (priceRefusal isBuy limits qtys) 0) (distinctLimits limits) [])
+  unfoldable pub side_totals : Table
+  side_totals = totals_at (cond (eqb (price_refusal is_buy limits qtys) 0) (distinct_limits limits) [])

@@ -1,31 +1,31 @@
 -- What the private functions keep on the way: forms that are cheap to compute. proofs/Price.antt, proofs/Search.antt and proofs/Sorted.antt show that they come to
 -- the definitions of Price.antt and ProRata.antt.
 use Rattle.std.specs.Prelude.{◌≡◌, Bool, true, cond, List, ℕ, ◌+◌, ◌<◌, ◌≤◌, min, ltb, leb, length, get_or}
-use Rattle.laws.specs.Sums.{only, count, sumOf}
+use Rattle.laws.specs.Sums.{only, count, sum_of}
 use Rattle.laws.specs.Lex.{lex}
 use Rattle.wide.specs.Value.{value, apart}
-use Rattle.credit_math.specs.Limits.{maxOrders}
-use Rattle.credit_math.specs.Price.{Best, none, at, executed, imbalance, clearPrice}
-use Rattle.credit_math.specs.SideTotals.{tableOf, distinctLimits, totalsAt}
+use Rattle.credit_math.specs.Limits.{max_orders}
+use Rattle.credit_math.specs.Price.{Best, none, at, executed, imbalance, clear_price}
+use Rattle.credit_math.specs.SideTotals.{table_of, distinct_limits, totals_at}
 use Rattle.credit_math.specs.ProRata.{share, residue}
 use Rattle.credit_math.specs.declared.allocation.Quote.{Quote}
 use Rattle.credit_math.specs.declared.allocation.Kept.{Kept}
 use Rattle.credit_math.specs.declared.side_totals.SideTotals.{SideTotals}
 
--- lists of one length, of at most maxOrders places
-pub record Book (isBuy : List Bool) (limits qtys : List ℕ) : Type 0 where
-  pub few : length isBuy ≤ maxOrders
-  pub limits-too : length limits ≡ length isBuy
-  pub qtys-too : length qtys ≡ length isBuy
+-- lists of one length, of at most max_orders places
+pub record Book (is_buy : List Bool) (limits qtys : List ℕ) : Type 0 where
+  pub few : length is_buy ≤ max_orders
+  pub limits_too : length limits ≡ length is_buy
+  pub qtys_too : length qtys ≡ length is_buy
 
 -- a quote holds its price's figures
-pub record Quoted (isBuy : List Bool) (limits qtys : List ℕ) (q : Quote) : Type 0 where
-  pub volume : value q.executed ≡ executed isBuy limits qtys q.price
-  pub gap : value q.imbalance ≡ imbalance isBuy limits qtys q.price
+pub record Quoted (is_buy : List Bool) (limits qtys : List ℕ) (q : Quote) : Type 0 where
+  pub volume : value q.executed ≡ executed is_buy limits qtys q.price
+  pub gap : value q.imbalance ≡ imbalance is_buy limits qtys q.price
 
 -- a quote made of the totals of the two sides
 pub record QuoteOf (p buys sells : ℕ) (q : Quote) : Type 0 where
-  pub price-is : q.price ≡ p
+  pub price_is : q.price ≡ p
   pub volume : value q.executed ≡ min buys sells
   pub gap : value q.imbalance ≡ apart sells buys
 
@@ -34,7 +34,7 @@ abbrev pub best : Kept → Best
 best k = cond k.found (at k.quote.price) none
 
 abbrev pub AllQuoted : List Bool → List ℕ → List ℕ → Kept → Type 0
-AllQuoted isBuy limits qtys k = k.found ≡ true → Quoted isBuy limits qtys k.quote
+AllQuoted is_buy limits qtys k = k.found ≡ true → Quoted is_buy limits qtys k.quote
 
 -- one quote is better than another, by their figures
 unfoldable pub ahead : (a b : Quote) (reference : ℕ) → Bool
@@ -56,13 +56,13 @@ after k q reserve reference = cond (leb reserve q.price) (cond (ltb 0 (value q.e
 -- what the search keeps, whatever orders the table is of: the source's price, with its figures
 abbrev pub Searched : SideTotals → (reserve reference : ℕ) → Kept → Type 0
 Searched t reserve reference k =
-    (isBuy : List Bool) (limits qtys : List ℕ) → tableOf t ≡ totalsAt isBuy limits qtys (distinctLimits limits)
-    → (best k ≡ clearPrice isBuy limits qtys reserve reference) × AllQuoted isBuy limits qtys k
+    (is_buy : List Bool) (limits qtys : List ℕ) → table_of t ≡ totals_at is_buy limits qtys (distinct_limits limits)
+    → (best k ≡ clear_price is_buy limits qtys reserve reference) × AllQuoted is_buy limits qtys k
 
--- v is the sum of at most maxOrders quantities
+-- v is the sum of at most max_orders quantities
 pub record Whole (qtys : List ℕ) (v : ℕ) : Type 0 where
-  pub few : length qtys ≤ maxOrders
-  pub is : v ≡ sumOf qtys
+  pub few : length qtys ≤ max_orders
+  pub is : v ≡ sum_of qtys
 
 -- what the shares go by: the sum of the quantities, and a total within it
 pub record Sharing (qtys : List ℕ) (total sum : ℕ) : Type 0 where
@@ -72,7 +72,7 @@ pub record Sharing (qtys : List ℕ) (total sum : ℕ) : Type 0 where
 -- what an allotment goes by: the same, and an id for each quantity
 pub record Allotting (ids qtys : List ℕ) (total sum : ℕ) : Type 0 where
   pub sharing : Sharing qtys total sum
-  pub ids-too : length ids ≡ length qtys
+  pub ids_too : length ids ≡ length qtys
 
 -- how many quantities are not 0
 abbrev pub filled : (qtys : List ℕ) → ℕ
@@ -82,10 +82,10 @@ filled qtys = count (λ i. ltb 0 (get_or qtys i 0)) (length qtys)
 unfoldable pub before : (ids qtys : List ℕ) (j i : ℕ) → Bool
 before ids qtys j i = lex (get_or qtys i 0) (get_or qtys j 0) (lex (get_or ids j 0) (get_or ids i 0) (ltb j i))
 
--- what a rank goes by: an id for each of at most maxOrders quantities, and one of their places
+-- what a rank goes by: an id for each of at most max_orders quantities, and one of their places
 pub record Ranked (ids qtys : List ℕ) (i : ℕ) : Type 0 where
-  pub few : length qtys ≤ maxOrders
-  pub ids-too : length ids ≡ length qtys
+  pub few : length qtys ≤ max_orders
+  pub ids_too : length ids ≡ length qtys
   pub here : i < length qtys
 
 -- how many places come before i
@@ -94,4 +94,4 @@ rank ids qtys i = count (λ j. before ids qtys j i) (length qtys)
 
 -- a lot: the share, and one unit more where fewer places than the residue come before
 unfoldable pub lot : (ids qtys : List ℕ) (total i : ℕ) → ℕ
-lot ids qtys total i = share total (sumOf qtys) (get_or qtys i 0) + only (ltb (rank ids qtys i) (residue qtys total)) 1
+lot ids qtys total i = share total (sum_of qtys) (get_or qtys i 0) + only (ltb (rank ids qtys i) (residue qtys total)) 1

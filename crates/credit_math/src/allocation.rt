@@ -1,12 +1,12 @@
 // Uniform-price clearing and pro-rata lots, on parallel slices of 64-bit numbers.
 ghost use Rattle.std.specs.Prelude.{◌≡◌, false, ◌+◌, ◌-◌, ◌*◌, ◌/◌, ◌<◌, ◌≤◌, length, ltb, eqb};
-ghost use Rattle.laws.specs.Sums.{only, sumOf};
+ghost use Rattle.laws.specs.Sums.{only, sum_of};
 ghost use Rattle.laws.specs.Lists.{table};
 ghost use Rattle.laws.specs.Lex.{lex};
 ghost use Rattle.wide.specs.Value.{value, apart};
-ghost use Rattle.credit_math.specs.Limits.{maxOrders};
-ghost use Rattle.credit_math.specs.Price.{found, findUniformClearPrice};
-ghost use Rattle.credit_math.specs.ProRata.{share, remainder, shares, remainders, residue, proRataRefusal, allocateProRata};
+ghost use Rattle.credit_math.specs.Limits.{max_orders};
+ghost use Rattle.credit_math.specs.Price.{found, find_uniform_clear_price};
+ghost use Rattle.credit_math.specs.ProRata.{share, remainder, shares, remainders, residue, pro_rata_refusal, allocate_pro_rata};
 ghost use Rattle.credit_math.specs.Steps.{QuoteOf, ahead, keeping, after, Searched, Whole, Sharing, Allotting, Ranked, filled, rank, lot};
 
 use crate::side_totals::{SideTotals, price_refusal, running_sums};
@@ -35,7 +35,7 @@ pub fn find_uniform_clear_price(
     reserve: u64,
     reference: u64,
 ) -> Clearing
-    ensures { found result ≡ findUniformClearPrice is_buy.now limits.now qtys.now reserve reference }
+    ensures { found result ≡ find_uniform_clear_price is_buy.now limits.now qtys.now reserve reference }
 {
     let refusal = price_refusal(is_buy, limits, qtys);
     if refusal != 0 {
@@ -71,7 +71,7 @@ struct Kept {
 
 // Each row of the table in turn, with the best so far.
 fn search(table: SideTotals, reserve: u64, reference: u64) -> Kept
-    requires { table.count ≤ maxOrders }
+    requires { table.count ≤ max_orders }
     ensures { Searched table reserve reference result }
 {
     let mut kept = nothing();
@@ -185,8 +185,8 @@ fn abs_diff(a: u64, b: u64) -> u64
 
 // Lots of a total over at most 16 quantities: 0, or the number of a refusal, which leaves the output as it was.
 pub fn allocate_pro_rata(total: u64, ids: &[u64], qtys: &[u64], out: &mut [u64]) -> u8
-    ensures { (result ≡ proRataRefusal ids.now qtys.now (length out.old) total)
-        × (out.new ≡ allocateProRata ids.now qtys.now total out.old) }
+    ensures { (result ≡ pro_rata_refusal ids.now qtys.now (length out.old) total)
+        × (out.new ≡ allocate_pro_rata ids.now qtys.now total out.old) }
 {
     if crate::MAX_ORDERS < qtys.len() {
         return refusals::BAD_LENGTH;
@@ -209,7 +209,7 @@ pub fn allocate_pro_rata(total: u64, ids: &[u64], qtys: &[u64], out: &mut [u64])
 }
 
 fn sum_of(qtys: &[u64]) -> Wide
-    requires { length qtys.now ≤ maxOrders }
+    requires { length qtys.now ≤ max_orders }
     ensures { Whole qtys.now (value result) }
 {
     let mut sum = wide::of_word(0);
@@ -242,7 +242,7 @@ fn write_lots(total: u64, sum_qty: Wide, ids: &[u64], qtys: &[u64], out: &mut [u
 fn write_shares(total: u64, sum_qty: Wide, qtys: &[u64], out: &mut [u64]) -> u64
     requires { Sharing qtys.now total (value sum_qty) × (length out.old ≡ length qtys.now) }
     ensures { (out.new ≡ shares qtys.now total) × (result ≡ residue qtys.now total)
-        × (result * value sum_qty ≡ sumOf (remainders qtys.now total)) }
+        × (result * value sum_qty ≡ sum_of (remainders qtys.now total)) }
 {
     let mut left = total;
     let mut i = 0;

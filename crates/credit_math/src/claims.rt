@@ -8,19 +8,19 @@ pub fn rounds_up()
 {}
 
 pub fn price_is_right()
-    ensures { (isBuy : List Bool) (limits qtys : List ℕ) (reserve reference : ℕ) → PriceIsRight isBuy limits qtys reserve reference }
+    ensures { (is_buy : List Bool) (limits qtys : List ℕ) (reserve reference : ℕ) → PriceIsRight is_buy limits qtys reserve reference }
 {}
 
 pub fn totals_fit()
-    ensures { (isBuy : List Bool) (limits qtys : List ℕ) → TotalsFit isBuy limits qtys }
+    ensures { (is_buy : List Bool) (limits qtys : List ℕ) → TotalsFit is_buy limits qtys }
 {}
 
 pub fn table_is_right()
-    ensures { (isBuy : List Bool) (limits qtys : List ℕ) → TableIsRight isBuy limits qtys }
+    ensures { (is_buy : List Bool) (limits qtys : List ℕ) → TableIsRight is_buy limits qtys }
 {}
 
 pub fn running_sums_fit()
-    ensures { (isBuy : List Bool) (limits qtys : List ℕ) → RunningSumsFit isBuy limits qtys }
+    ensures { (is_buy : List Bool) (limits qtys : List ℕ) → RunningSumsFit is_buy limits qtys }
 {}
 
 pub fn share_is_right()

@@ -3,7 +3,7 @@
 
 ghost use Rattle.std.specs.Prelude.{◌≡◌};
 ghost use Rattle.wide.specs.Value.{value, Divided};
-ghost use Rattle.credit_math.specs.Rounding.{ceilDiv};
+ghost use Rattle.credit_math.specs.Rounding.{ceil_div};
 
 use wide::{Division, Wide};
 
@@ -23,7 +23,7 @@ pub fn div_round(a: Wide, denominator: Wide) -> Division
 
 // Division rounded up. By 0 the quotient counts as 0 and the remainder as a; no caller divides by 0.
 pub fn ceil_div(a: Wide, b: Wide) -> Wide
-    ensures { value result ≡ ceilDiv (value a) (value b) }
+    ensures { value result ≡ ceil_div (value a) (value b) }
 {
     let d = div_round(a, b);
     if wide::is_zero(d.rest) {

@@ -11,16 +11,16 @@ module _ (p w s : ℕ) (pos : zero < w) where
       ∙ sym (add-mul (p / w * w) (p % w) s)
       ∙ ap (λ (x : ℕ). x * s) (div-add-mod' p w)
 
-  pub by-parts : p / w * s + p % w * s / w ≡ p * s / w
-  by-parts = sym (mul-add-div_right pos (p / w * s) (p % w * s)) ∙ ap (λ (x : ℕ). x / w) whole
+  pub by_parts : p / w * s + p % w * s / w ≡ p * s / w
+  by_parts = sym (mul-add-div_right pos (p / w * s) (p % w * s)) ∙ ap (λ (x : ℕ). x / w) whole
 
   -- what the steps stay below, where the part is no more than the whole
   module _ (part : s ≤ w) where
-    pub first-le : p / w * s ≤ p
-    first-le = omega (arith, mul-le-mul_left (p / w) part, div-mul-le_self p w)
+    pub first_le : p / w * s ≤ p
+    first_le = omega (arith, mul-le-mul_left (p / w) part, div-mul-le_self p w)
 
-    second-le : p % w * s / w ≤ p % w
-    second-le = le_of_mul-le-mul_right (omega (arith, div-mul-le_self (p % w * s) w, mul-le-mul_left (p % w) part)) pos
+    second_le : p % w * s / w ≤ p % w
+    second_le = le_of_mul-le-mul_right (omega (arith, div-mul-le_self (p % w * s) w, mul-le-mul_left (p % w) part)) pos
 
-    pub sum-le : p / w * s + p % w * s / w ≤ p
-    sum-le = omega (arith, mul-le-mul_left (p / w) part, second-le, div-add-mod' p w)
+    pub sum_le : p / w * s + p % w * s / w ≤ p
+    sum_le = omega (arith, mul-le-mul_left (p / w) part, second_le, div-add-mod' p w)

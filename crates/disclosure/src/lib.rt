@@ -2,7 +2,7 @@
 #![tactic(auto)]
 
 ghost use Rattle.std.specs.Prelude.{◌≡◌, ◌+◌, ◌*◌, ◌/◌, ◌%◌, ◌<◌, ◌≤◌, max};
-ghost use Rattle.disclosure.specs.Disclosure.{maxBand, banded, bandAnswer, shown, discloseAnswer};
+ghost use Rattle.disclosure.specs.Disclosure.{max_band, banded, band_answer, shown, disclose_answer};
 
 // A band above this is refused: its width could be 0 or pass 64 bits.
 pub const MAX_BAND: u64 = 10_000;
@@ -22,7 +22,7 @@ pub struct Disclosed {
 
 // The price rounded down to its band.
 pub fn band(price: u64, band_bps: u64) -> Banded
-    ensures { result ≡ bandAnswer price band_bps }
+    ensures { result ≡ band_answer price band_bps }
 {
     if MAX_BAND < band_bps {
         return Banded {
@@ -37,7 +37,7 @@ pub fn band(price: u64, band_bps: u64) -> Banded
 }
 
 fn band_of(price: u64, band_bps: u64) -> u64
-    requires { band_bps ≤ maxBand }
+    requires { band_bps ≤ max_band }
     ensures { result ≡ banded price band_bps }
 {
     let width = at_least_one(part_of(price, band_bps));
@@ -46,7 +46,7 @@ fn band_of(price: u64, band_bps: u64) -> u64
 
 // price * band_bps / 10000, with no number above 64 bits.
 fn part_of(price: u64, band_bps: u64) -> u64
-    requires { band_bps ≤ maxBand }
+    requires { band_bps ≤ max_band }
     ensures { result ≡ price * band_bps / 10000 }
 {
     let a = price / 10000;
@@ -62,7 +62,7 @@ fn at_least_one(x: u64) -> u64
 
 // What a policy discloses of a price and a volume: 0 for what it withholds.
 pub fn disclose(policy: u8, band_bps: u64, price: u64, volume: u64) -> Disclosed
-    ensures { result ≡ discloseAnswer policy band_bps price volume }
+    ensures { result ≡ disclose_answer policy band_bps price volume }
 {
     if MAX_BAND < band_bps {
         return withheld(refusals::OVER_LIMIT);
@@ -86,7 +86,7 @@ fn withheld(refusal: u8) -> Disclosed
 
 // By the policy: all; the price in its band; the volume alone; nothing.
 fn shown_of(policy: u8, band_bps: u64, price: u64, volume: u64) -> Disclosed
-    requires { band_bps ≤ maxBand }
+    requires { band_bps ≤ max_band }
     ensures { result ≡ shown policy band_bps price volume }
 {
     match policy {

@@ -1,14 +1,14 @@
 -- What an accepted order's escrow covers: proofs/Covers.antt.
 use Rattle.std.specs.Prelude.{◌≡◌, true, ℕ, ◌≤◌}
-use Rattle.book.specs.Book.{buySide, sellSide}
+use Rattle.book.specs.Book.{buy_side, sell_side}
 use Rattle.book.specs.declared.Row.{Row}
-use Rattle.escrow.specs.Cover.{gross, coverRefusal}
+use Rattle.escrow.specs.Cover.{gross, cover_refusal}
 use Rattle.escrow.specs.declared.Cover.TheVariants.{Decimals}
 
 -- the escrow covers all that the order can ever pay: any lot of it at any price that its limit allows
 pub record Covers (decimals : ℕ) (row : Row) : Type 0 where
-  pub buy : row.side ≡ buySide → (lot price : ℕ) → lot ≤ row.qty → price ≤ row.limit → gross lot price decimals ≤ row.escrowed
-  pub sell : row.side ≡ sellSide → (lot : ℕ) → lot ≤ row.qty → lot ≤ row.escrowed
+  pub buy : row.side ≡ buy_side → (lot price : ℕ) → lot ≤ row.qty → price ≤ row.limit → gross lot price decimals ≤ row.escrowed
+  pub sell : row.side ≡ sell_side → (lot : ℕ) → lot ≤ row.qty → lot ≤ row.escrowed
 
 abbrev pub NotRefusedCovers : Type 0
-NotRefusedCovers = (decimals : ℕ) (row : Row) → row.revealed ≡ true → coverRefusal (Decimals decimals) row ≡ 0 → Covers decimals row
+NotRefusedCovers = (decimals : ℕ) (row : Row) → row.revealed ≡ true → cover_refusal (Decimals decimals) row ≡ 0 → Covers decimals row

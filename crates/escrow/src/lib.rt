@@ -3,7 +3,7 @@
 
 ghost use Rattle.std.specs.Prelude.{◌≡◌, ◌^◌, ◌≤◌};
 ghost use Rattle.wide.specs.Value.{value};
-ghost use Rattle.escrow.specs.Cover.{maxDecimals, gross, covered, decimalsRefusal, coverRefusal};
+ghost use Rattle.escrow.specs.Cover.{max_decimals, gross, covered, decimals_refusal, cover_refusal};
 
 use book::Row;
 use laws::checks::unless;
@@ -21,7 +21,7 @@ pub const MAX_DECIMALS: u8 = 19;
 
 // 4 decimals outside their values.
 pub fn decimals_refusal(cover: Cover) -> u8
-    ensures { result ≡ decimalsRefusal cover }
+    ensures { result ≡ decimals_refusal cover }
 {
     match cover {
         Cover::Unasked => 0,
@@ -31,7 +31,7 @@ pub fn decimals_refusal(cover: Cover) -> u8
 
 // 31 an order that its escrow does not cover.
 pub fn cover_refusal(cover: Cover, row: Row) -> u8
-    ensures { result ≡ coverRefusal cover row }
+    ensures { result ≡ cover_refusal cover row }
 {
     match cover {
         Cover::Unasked => 0,
@@ -73,7 +73,7 @@ fn gross(qty: u64, price: u64, decimals: u8) -> Wide
 
 // 10^decimals
 fn scale(decimals: u8) -> u64
-    requires { decimals ≤ maxDecimals }
+    requires { decimals ≤ max_decimals }
     ensures { result ≡ 10 ^ decimals }
 {
     let mut power: u64 = 1;

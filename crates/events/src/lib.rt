@@ -2,7 +2,7 @@
 #![tactic(auto)]
 
 ghost use Rattle.std.specs.Prelude.{◌≡◌, [], ◌∷◌};
-ghost use Rattle.events.specs.Events.{packed, pushed, eventPair, pairEvents};
+ghost use Rattle.events.specs.Events.{packed, pushed, event_pair, pair_events};
 
 // The most events of one call: every fill, and the change of phase.
 pub const MAX_EVENTS: usize = book::MAX_FILLS + 1;
@@ -120,7 +120,7 @@ pub struct EventPair {
 
 impl EventPair {
     pub fn none() -> Self
-        ensures { result ≡ eventPair [] }
+        ensures { result ≡ event_pair [] }
     {
         EventPair {
             count: 0,
@@ -130,7 +130,7 @@ impl EventPair {
     }
 
     pub fn one(e: Event) -> Self
-        ensures { result ≡ eventPair (e ∷ []) }
+        ensures { result ≡ event_pair (e ∷ []) }
     {
         EventPair {
             count: 1,
@@ -140,7 +140,7 @@ impl EventPair {
     }
 
     pub fn two(e: Event, f: Event) -> Self
-        ensures { result ≡ eventPair (e ∷ f ∷ []) }
+        ensures { result ≡ event_pair (e ∷ f ∷ []) }
     {
         EventPair {
             count: 2,
@@ -151,7 +151,7 @@ impl EventPair {
 
     // The same events in the struct that holds any call's.
     pub fn all(self) -> Events
-        ensures { result ≡ packed (pairEvents self) }
+        ensures { result ≡ packed (pair_events self) }
     {
         let none = Events::none();
         if self.count == 0 {

@@ -3,9 +3,9 @@ use mathlib.Core.Path.{refl}
 use Rattle.laws.specs.Search.{every}
 use Rattle.laws.specs.Lists.{table, keep, has}
 use Rattle.laws.specs.Checks.{unless, ◌then◌}
-use Rattle.fills.specs.FillCount.{lotsOn, partialSums, distinct, fillCount, fillCountRefusal, fillCountAnswer}
+use Rattle.fills.specs.FillCount.{lots_on, partial_sums, distinct, fill_count, fill_count_refusal, fill_count_answer}
 use Rattle.fills.specs.Examples.{All, examples}
 
-pub examples-hold : All examples
-unfolding every table keep has unless ◌then◌ lotsOn partialSums distinct fillCount fillCountRefusal fillCountAnswer
-examples-hold = (refl, (refl, (refl, (refl, (refl, (refl, (refl, tt)))))))
+pub examples_hold : All examples
+unfolding every table keep has unless ◌then◌ lots_on partial_sums distinct fill_count fill_count_refusal fill_count_answer
+examples_hold = (refl, (refl, (refl, (refl, (refl, (refl, (refl, tt)))))))

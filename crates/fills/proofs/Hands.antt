@@ -13,112 +13,112 @@ use lib.ListN.{length, drop, drop_of_length-le}
 use lib.Seq.{drop-cons}
 use Rattle.laws.specs.Lists.{table, keep}
 use Rattle.laws.proofs.Tests.{neither}
-use Rattle.laws.proofs.Lists.{length-table, get_or-table}
-use Rattle.credit_math.specs.Limits.{maxOrders}
-use Rattle.book.specs.Book.{buySide, sellSide}
+use Rattle.laws.proofs.Lists.{length_table, get_or_table}
+use Rattle.credit_math.specs.Limits.{max_orders}
+use Rattle.book.specs.Book.{buy_side, sell_side}
 use Rattle.fills.specs.declared.Hand.{Hand}
-use Rattle.fills.specs.FillCount.{fillCount}
-use Rattle.fills.specs.Steps.{Taken, nonzero, fillsOf, lotOn, ahead, lessOther}
-use Rattle.fills.proofs.Fills.{nonzero-none, fill-next, lone-buy, lone-sell, same-fills, no-fills}
-use Rattle.fills.proofs.Places.{count-by-place}
-use Rattle.fills.proofs.Bounds.{fills-few}
+use Rattle.fills.specs.FillCount.{fill_count}
+use Rattle.fills.specs.Steps.{Taken, nonzero, fills_of, lot_on, ahead, less_other}
+use Rattle.fills.proofs.Fills.{nonzero_none, fill_next, lone_buy, lone_sell, same_fills, no_fills}
+use Rattle.fills.proofs.Places.{count_by_place}
+use Rattle.fills.proofs.Bounds.{fills_few}
 
 module _ (side : ℕ) (lots sides : List ℕ) where
   -- an empty hand takes the next order's lot
-  pub take-next : (hand : Hand) → hand.left ≡ 0 → hand.next < length lots
-      → nonzero (ahead side lots sides (record { left = lotOn side lots sides hand.next; next = hand.next + 1 })) ≡ nonzero (ahead side lots sides hand)
+  pub take_next : (hand : Hand) → hand.left ≡ 0 → hand.next < length lots
+      → nonzero (ahead side lots sides (record { left = lot_on side lots sides hand.next; next = hand.next + 1 })) ≡ nonzero (ahead side lots sides hand)
   unfolding ahead
-  take-next hand e l =
-      let T = table (lotOn side lots sides) (length lots) in
+  take_next hand e l =
+      let T = table (lot_on side lots sides) (length lots) in
       let i = hand.next in
-      sym (nonzero-none hand.left (drop i T) e
-      ∙ ap nonzero (drop-cons T i 0 (omega (arith, length-table (lotOn side lots sides) (length lots), l))
-      ∙ ap₂ (λ x k. x ∷ drop k T) (get_or-table (lotOn side lots sides) (length lots) i 0 l) (sym (add-one i))))
+      sym (nonzero_none hand.left (drop i T) e
+      ∙ ap nonzero (drop-cons T i 0 (omega (arith, length_table (lot_on side lots sides) (length lots), l))
+      ∙ ap₂ (λ x k. x ∷ drop k T) (get_or_table (lot_on side lots sides) (length lots) i 0 l) (sym (add-one i))))
 
   -- past the last order an empty hand has nothing ahead
-  pub nothing-ahead : (hand : Hand) → hand.left ≡ 0 → length lots ≤ hand.next → nonzero (ahead side lots sides hand) ≡ []
+  pub nothing_ahead : (hand : Hand) → hand.left ≡ 0 → length lots ≤ hand.next → nonzero (ahead side lots sides hand) ≡ []
   unfolding ahead nonzero keep
-  nothing-ahead hand e l =
-      nonzero-none hand.left (drop hand.next (table (lotOn side lots sides) (length lots))) e
-      ∙ ap nonzero (drop_of_length-le (table (lotOn side lots sides) (length lots)) {i = hand.next} (omega (arith, length-table (lotOn side lots sides) (length lots), l)))
+  nothing_ahead hand e l =
+      nonzero_none hand.left (drop hand.next (table (lot_on side lots sides) (length lots))) e
+      ∙ ap nonzero (drop_of_length-le (table (lot_on side lots sides) (length lots)) {i = hand.next} (omega (arith, length_table (lot_on side lots sides) (length lots), l)))
 
   -- before the first order everything is ahead
-  all-ahead : (hand : Hand) → hand.left ≡ 0 → hand.next ≡ 0 → nonzero (ahead side lots sides hand) ≡ nonzero (table (lotOn side lots sides) (length lots))
+  all_ahead : (hand : Hand) → hand.left ≡ 0 → hand.next ≡ 0 → nonzero (ahead side lots sides hand) ≡ nonzero (table (lot_on side lots sides) (length lots))
   unfolding ahead
-  all-ahead hand e z = rw z (nonzero-none hand.left (table (lotOn side lots sides) (length lots)) e)
+  all_ahead hand e z = rw z (nonzero_none hand.left (table (lot_on side lots sides) (length lots)) e)
 
 -- What a fill leaves
 
-less-lone : (x y : ℕ) → y ≡ 0 → lessOther x y ≡ 0
-less-lone x y e = rw (eq-eqb y 0 e)
+less_lone : (x y : ℕ) → y ≡ 0 → less_other x y ≡ 0
+less_lone x y e = rw (eq-eqb y 0 e)
 
-less-of : (x y : ℕ) → y ≢ 0 → lessOther x y ≡ x - y
-less-of x y e = rw (ne_eqb y 0 e)
+less_of : (x y : ℕ) → y ≢ 0 → less_other x y ≡ x - y
+less_of x y e = rw (ne_eqb y 0 e)
 
-less-none : (x y : ℕ) → x ≡ 0 → lessOther x y ≡ 0
-less-none x y e = go (ℕ_discrete y 0)
+less_none : (x y : ℕ) → x ≡ 0 → less_other x y ≡ 0
+less_none x y e = go (ℕ_discrete y 0)
   where
-    go : Dec (y ≡ 0) → lessOther x y ≡ 0
-    go (yes d) = less-lone x y d
-    go (no d) = less-of x y d ∙ (let z : x - y ≡ 0 = omega arith in z)
+    go : Dec (y ≡ 0) → less_other x y ≡ 0
+    go (yes d) = less_lone x y d
+    go (no d) = less_of x y d ∙ (let z : x - y ≡ 0 = omega arith in z)
 
 -- one fill fewer to come: both hands hold a lot, or a side has run out
-one-fewer : (x y : ℕ) (l k : List ℕ) → 0 < x + y → (x ≡ 0 → nonzero (x ∷ l) ≡ []) → (y ≡ 0 → nonzero (y ∷ k) ≡ [])
-    → fillsOf (x ∷ l) (y ∷ k) ≡ suc (fillsOf (lessOther x y ∷ l) (lessOther y x ∷ k))
-one-fewer x y l k h hx hy = go (ℕ_discrete x 0) (ℕ_discrete y 0)
+one_fewer : (x y : ℕ) (l k : List ℕ) → 0 < x + y → (x ≡ 0 → nonzero (x ∷ l) ≡ []) → (y ≡ 0 → nonzero (y ∷ k) ≡ [])
+    → fills_of (x ∷ l) (y ∷ k) ≡ suc (fills_of (less_other x y ∷ l) (less_other y x ∷ k))
+one_fewer x y l k h hx hy = go (ℕ_discrete x 0) (ℕ_discrete y 0)
   where
-    go : Dec (x ≡ 0) → Dec (y ≡ 0) → fillsOf (x ∷ l) (y ∷ k) ≡ suc (fillsOf (lessOther x y ∷ l) (lessOther y x ∷ k))
+    go : Dec (x ≡ 0) → Dec (y ≡ 0) → fills_of (x ∷ l) (y ∷ k) ≡ suc (fills_of (less_other x y ∷ l) (less_other y x ∷ k))
     go (yes e) (yes d) = absurd (omega arith)
     go (yes e) (no d) =
-        lone-sell y (x ∷ l) k (omega arith) (hx e)
-        ∙ ap suc (same-fills (x ∷ l) k _ _ (ap (λ u. nonzero (u ∷ l)) (e ∙ sym (less-none x y e))) (sym (nonzero-none _ k (less-lone y x e))))
+        lone_sell y (x ∷ l) k (omega arith) (hx e)
+        ∙ ap suc (same_fills (x ∷ l) k _ _ (ap (λ u. nonzero (u ∷ l)) (e ∙ sym (less_none x y e))) (sym (nonzero_none _ k (less_lone y x e))))
     go (no e) (yes d) =
-        lone-buy x l (y ∷ k) (omega arith) (hy d)
-        ∙ ap suc (same-fills l (y ∷ k) _ _ (sym (nonzero-none _ l (less-lone x y d))) (ap (λ u. nonzero (u ∷ k)) (d ∙ sym (less-none y x d))))
+        lone_buy x l (y ∷ k) (omega arith) (hy d)
+        ∙ ap suc (same_fills l (y ∷ k) _ _ (sym (nonzero_none _ l (less_lone x y d))) (ap (λ u. nonzero (u ∷ k)) (d ∙ sym (less_none y x d))))
     go (no e) (no d) =
-        fill-next x y l k (omega arith) (omega arith) ∙ ap suc (ap₂ (λ u v. fillsOf (u ∷ l) (v ∷ k)) (sym (less-of x y d)) (sym (less-of y x e)))
+        fill_next x y l k (omega arith) (omega arith) ∙ ap suc (ap₂ (λ u v. fills_of (u ∷ l) (v ∷ k)) (sym (less_of x y d)) (sym (less_of y x e)))
 
 -- what the loop's test says of two hands
-pub some-left : (x y : ℕ) (t : Bool) → t ≡ (ltb 0 x || ltb 0 y) → t ≡ true → 0 < x + y
-some-left x y t e h = go (ltb 0 x) refl (sym e ∙ h)
+pub some_left : (x y : ℕ) (t : Bool) → t ≡ (ltb 0 x || ltb 0 y) → t ≡ true → 0 < x + y
+some_left x y t e h = go (ltb 0 x) refl (sym e ∙ h)
   where
     go : (b : Bool) → ltb 0 x ≡ b → b || ltb 0 y ≡ true → 0 < x + y
     go true d _ = omega (arith, ltb-true 0 x d)
     go false d w = omega (arith, ltb-true 0 y w)
 
-pub none-left : (x y : ℕ) (t : Bool) → t ≡ (ltb 0 x || ltb 0 y) → t ≡ false → (x ≡ 0) × (y ≡ 0)
-none-left x y t e h =
+pub none_left : (x y : ℕ) (t : Bool) → t ≡ (ltb 0 x || ltb 0 y) → t ≡ false → (x ≡ 0) × (y ≡ 0)
+none_left x y t e h =
     let n = neither (ltb 0 x) (ltb 0 y) (sym e ∙ h) in
     (omega (arith, ltb-false 0 x n.0), omega (arith, ltb-false 0 y n.1))
 
 module _ (lots sides : List ℕ) where
   -- the fills ahead of two hands
-  abbrev fillsAhead : Hand → Hand → ℕ
-  fillsAhead buy sell = fillsOf (ahead buySide lots sides buy) (ahead sellSide lots sides sell)
+  abbrev fills_ahead : Hand → Hand → ℕ
+  fills_ahead buy sell = fills_of (ahead buy_side lots sides buy) (ahead sell_side lots sides sell)
 
   -- the fills counted and those to come are all
   pub record Counting (buy sell : Hand) (count : ℕ) : Type 0 where
-    pub all : count + fillsAhead buy sell ≡ fillCount lots sides
-    pub no-buy : buy.left ≡ 0 → nonzero (ahead buySide lots sides buy) ≡ []
-    pub no-sell : sell.left ≡ 0 → nonzero (ahead sellSide lots sides sell) ≡ []
+    pub all : count + fills_ahead buy sell ≡ fill_count lots sides
+    pub no_buy : buy.left ≡ 0 → nonzero (ahead buy_side lots sides buy) ≡ []
+    pub no_sell : sell.left ≡ 0 → nonzero (ahead sell_side lots sides sell) ≡ []
     pub buys : buy.next ≤ length lots
     pub sells : sell.next ≤ length lots
 
   -- at the start all are to come
-  pub starts : (none buy sell : Hand) → none.left ≡ 0 → none.next ≡ 0 → Taken buySide lots sides none buy → Taken sellSide lots sides none sell
+  pub starts : (none buy sell : Hand) → none.left ≡ 0 → none.next ≡ 0 → Taken buy_side lots sides none buy → Taken sell_side lots sides none sell
       → Counting buy sell 0
   starts none buy sell e z b s =
       record {
         all =
-            let T = λ (side : ℕ). table (lotOn side lots sides) (length lots) in
+            let T = λ (side : ℕ). table (lot_on side lots sides) (length lots) in
             omega (
               arith,
-              same-fills (ahead buySide lots sides buy) (ahead sellSide lots sides sell) (T buySide) (T sellSide)
-                  (b.same ∙ all-ahead buySide lots sides none e z) (s.same ∙ all-ahead sellSide lots sides none e z),
-              count-by-place lots sides,
+              same_fills (ahead buy_side lots sides buy) (ahead sell_side lots sides sell) (T buy_side) (T sell_side)
+                  (b.same ∙ all_ahead buy_side lots sides none e z) (s.same ∙ all_ahead sell_side lots sides none e z),
+              count_by_place lots sides,
             );
-        no-buy = b.none;
-        no-sell = s.none;
+        no_buy = b.none;
+        no_sell = s.none;
         buys = b.within;
         sells = s.within;
       }
@@ -126,40 +126,40 @@ module _ (lots sides : List ℕ) where
   module _ (buy sell : Hand) (count : ℕ) (C : Counting buy sell count) where
     -- a turn makes one of them
     turn : 0 < buy.left + sell.left
-        → fillsAhead buy sell ≡ suc (fillsAhead (record { left = lessOther buy.left sell.left; next = buy.next }) (record { left = lessOther sell.left buy.left; next = sell.next }))
+        → fills_ahead buy sell ≡ suc (fills_ahead (record { left = less_other buy.left sell.left; next = buy.next }) (record { left = less_other sell.left buy.left; next = sell.next }))
     unfolding ahead
-    turn h = one-fewer buy.left sell.left _ _ h C.no-buy C.no-sell
+    turn h = one_fewer buy.left sell.left _ _ h C.no_buy C.no_sell
 
-    pub turns : 0 < buy.left + sell.left → (x y : ℕ) (newBuy newSell : Hand) → x ≡ lessOther buy.left sell.left → y ≡ lessOther sell.left buy.left
-        → Taken buySide lots sides (record { left = x; next = buy.next }) newBuy → Taken sellSide lots sides (record { left = y; next = sell.next }) newSell
-        → Counting newBuy newSell (count + 1)
-    turns h x y newBuy newSell ex ey b s =
-        let n = same-fills (ahead buySide lots sides newBuy) (ahead sellSide lots sides newSell) _ _ b.same s.same in
-        let e = ap₂ (λ u v. fillsAhead (record { left = u; next = buy.next }) (record { left = v; next = sell.next })) ex ey in
+    pub turns : 0 < buy.left + sell.left → (x y : ℕ) (new_buy new_sell : Hand) → x ≡ less_other buy.left sell.left → y ≡ less_other sell.left buy.left
+        → Taken buy_side lots sides (record { left = x; next = buy.next }) new_buy → Taken sell_side lots sides (record { left = y; next = sell.next }) new_sell
+        → Counting new_buy new_sell (count + 1)
+    turns h x y new_buy new_sell ex ey b s =
+        let n = same_fills (ahead buy_side lots sides new_buy) (ahead sell_side lots sides new_sell) _ _ b.same s.same in
+        let e = ap₂ (λ u v. fills_ahead (record { left = u; next = buy.next }) (record { left = v; next = sell.next })) ex ey in
         record {
           all = omega (arith, C.all, turn h, n, e);
-          no-buy = b.none;
-          no-sell = s.none;
+          no_buy = b.none;
+          no_sell = s.none;
           buys = b.within;
           sells = s.within;
         }
 
     -- with a lot in hand a fill is to come
-    pub more : 0 < buy.left + sell.left → count < fillCount lots sides
+    pub more : 0 < buy.left + sell.left → count < fill_count lots sides
     more h = omega (arith, C.all, turn h)
 
     -- with none, all are counted
-    pub ends : buy.left ≡ 0 → sell.left ≡ 0 → count ≡ fillCount lots sides
-    ends e d = omega (arith, C.all, no-fills _ _ (C.no-buy e) (C.no-sell d))
+    pub ends : buy.left ≡ 0 → sell.left ≡ 0 → count ≡ fill_count lots sides
+    ends e d = omega (arith, C.all, no_fills _ _ (C.no_buy e) (C.no_sell d))
 
   -- the number is small
-  pub few : length lots ≤ maxOrders → fillCount lots sides ≤ maxOrders + maxOrders
+  pub few : length lots ≤ max_orders → fill_count lots sides ≤ max_orders + max_orders
   few h =
       omega (
         arith,
         h,
-        count-by-place lots sides,
-        fills-few (table (lotOn buySide lots sides) (length lots)) (table (lotOn sellSide lots sides) (length lots)),
-        length-table (lotOn buySide lots sides) (length lots),
-        length-table (lotOn sellSide lots sides) (length lots),
+        count_by_place lots sides,
+        fills_few (table (lot_on buy_side lots sides) (length lots)) (table (lot_on sell_side lots sides) (length lots)),
+        length_table (lot_on buy_side lots sides) (length lots),
+        length_table (lot_on sell_side lots sides) (length lots),
       )

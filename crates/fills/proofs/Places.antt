@@ -11,21 +11,21 @@ use lib.ListN.{length, get_or}
 use Rattle.laws.specs.Sums.{only}
 use Rattle.laws.specs.Search.{every}
 use Rattle.laws.specs.Lists.{table, keep}
-use Rattle.laws.proofs.Search.{every-all}
-use Rattle.laws.proofs.Lists.{length-table, get_or-table, table-same}
-use Rattle.laws.proofs.Checking.{check-pass, unless-pass}
-use Rattle.credit_math.specs.Limits.{maxOrders}
-use Rattle.book.specs.Book.{buySide, sellSide}
-use Rattle.fills.specs.FillCount.{lotsOn, fillCount, fillCountRefusal, fillCountAnswer}
-use Rattle.fills.specs.Steps.{nonzero, fillsOf, lotOn}
-use Rattle.fills.proofs.Fills.{nonzero-none}
+use Rattle.laws.proofs.Search.{every_all}
+use Rattle.laws.proofs.Lists.{length_table, get_or_table, table_same}
+use Rattle.laws.proofs.Checking.{check_pass, unless_pass}
+use Rattle.credit_math.specs.Limits.{max_orders}
+use Rattle.book.specs.Book.{buy_side, sell_side}
+use Rattle.fills.specs.FillCount.{lots_on, fill_count, fill_count_refusal, fill_count_answer}
+use Rattle.fills.specs.Steps.{nonzero, fills_of, lot_on}
+use Rattle.fills.proofs.Fills.{nonzero_none}
 
 -- the lots above 0 of the places that pass
-kept-lots : (p : ℕ → Bool) (lot f : ℕ → ℕ) (n : ℕ)
+kept_lots : (p : ℕ → Bool) (lot f : ℕ → ℕ) (n : ℕ)
     → map lot (keep (λ i. p i && ltb 0 (lot i)) (table f n)) ≡ nonzero (table (λ i. only (p (f i)) (lot (f i))) n)
 unfolding nonzero keep table
-kept-lots p lot f zero = refl
-kept-lots p lot f (suc n) = go (p (f 0)) (ltb 0 (lot (f 0))) refl (kept-lots p lot (λ i. f (suc i)) n)
+kept_lots p lot f zero = refl
+kept_lots p lot f (suc n) = go (p (f 0)) (ltb 0 (lot (f 0))) refl (kept_lots p lot (λ i. f (suc i)) n)
   where
     K : List ℕ
     K = keep (λ i. p i && ltb 0 (lot i)) (table (λ i. f (suc i)) n)
@@ -38,39 +38,39 @@ kept-lots p lot f (suc n) = go (p (f 0)) (ltb 0 (lot (f 0))) refl (kept-lots p l
     go true false e ih = rw e ih
     go true true e ih = rw e (ap (λ l. lot (f 0) ∷ l) ih)
 
-on-side : (side : ℕ) (lots sides : List ℕ) → lotsOn side lots sides ≡ nonzero (table (lotOn side lots sides) (length lots))
-unfolding lotsOn lotOn
-on-side side lots sides = kept-lots (λ i. eqb (get_or sides i 0) side) (λ i. get_or lots i 0) (λ i. i) (length lots)
+on_side : (side : ℕ) (lots sides : List ℕ) → lots_on side lots sides ≡ nonzero (table (lot_on side lots sides) (length lots))
+unfolding lots_on lot_on
+on_side side lots sides = kept_lots (λ i. eqb (get_or sides i 0) side) (λ i. get_or lots i 0) (λ i. i) (length lots)
 
-pub count-by-place : (lots sides : List ℕ)
-    → fillCount lots sides ≡ fillsOf (table (lotOn buySide lots sides) (length lots)) (table (lotOn sellSide lots sides) (length lots))
-unfolding fillCount fillsOf
-count-by-place lots sides = rw (on-side buySide lots sides, on-side sellSide lots sides)
+pub count_by_place : (lots sides : List ℕ)
+    → fill_count lots sides ≡ fills_of (table (lot_on buy_side lots sides) (length lots)) (table (lot_on sell_side lots sides) (length lots))
+unfolding fill_count fills_of
+count_by_place lots sides = rw (on_side buy_side lots sides, on_side sell_side lots sides)
 
 module _ (lot side : ℕ → ℕ) (n : ℕ) where
-  on-table : (x : ℕ) → table (lotOn x (table lot n) (table side n)) (length (table lot n)) ≡ table (λ i. only (eqb (side i) x) (lot i)) n
-  unfolding lotOn
-  on-table x =
-      ap (table (lotOn x (table lot n) (table side n))) (length-table lot n)
-      ∙ table-same _ _ n (λ i l. ap₂ (λ y z. only (eqb y x) z) (get_or-table side n i 0 l) (get_or-table lot n i 0 l))
+  on_table : (x : ℕ) → table (lot_on x (table lot n) (table side n)) (length (table lot n)) ≡ table (λ i. only (eqb (side i) x) (lot i)) n
+  unfolding lot_on
+  on_table x =
+      ap (table (lot_on x (table lot n) (table side n))) (length_table lot n)
+      ∙ table_same _ _ n (λ i l. ap₂ (λ y z. only (eqb y x) z) (get_or_table side n i 0 l) (get_or_table lot n i 0 l))
 
   -- the figure of lots and sides that stand in tables
-  pub count-table : fillCount (table lot n) (table side n)
-      ≡ fillsOf (table (λ i. only (eqb (side i) buySide) (lot i)) n) (table (λ i. only (eqb (side i) sellSide) (lot i)) n)
-  count-table = count-by-place (table lot n) (table side n) ∙ ap₂ fillsOf (on-table buySide) (on-table sellSide)
+  pub count_table : fill_count (table lot n) (table side n)
+      ≡ fills_of (table (λ i. only (eqb (side i) buy_side) (lot i)) n) (table (λ i. only (eqb (side i) sell_side) (lot i)) n)
+  count_table = count_by_place (table lot n) (table side n) ∙ ap₂ fills_of (on_table buy_side) (on_table sell_side)
 
-  accepted : n ≤ maxOrders → ((i : ℕ) → i < n → side i ≤ 1) → fillCountRefusal (table lot n) (table side n) ≡ 0
-  unfolding fillCountRefusal
+  accepted : n ≤ max_orders → ((i : ℕ) → i < n → side i ≤ 1) → fill_count_refusal (table lot n) (table side n) ≡ 0
+  unfolding fill_count_refusal
   accepted few known =
-      check-pass _ _ _ (le-leb (length (table lot n)) maxOrders (omega (arith, length-table lot n, few)))
-      (check-pass _ _ _ (eq-eqb _ _ (length-table side n ∙ sym (length-table lot n)))
-      (unless-pass _ _ (ap (every (λ i. leb (get_or (table side n) i 0) 1)) (length-table side n)
-      ∙ every-all _ n (λ i l. le-leb (get_or (table side n) i 0) 1 (omega (arith, get_or-table side n i 0 l, known i l))))))
+      check_pass _ _ _ (le-leb (length (table lot n)) max_orders (omega (arith, length_table lot n, few)))
+      (check_pass _ _ _ (eq-eqb _ _ (length_table side n ∙ sym (length_table lot n)))
+      (unless_pass _ _ (ap (every (λ i. leb (get_or (table side n) i 0) 1)) (length_table side n)
+      ∙ every_all _ n (λ i l. le-leb (get_or (table side n) i 0) 1 (omega (arith, get_or_table side n i 0 l, known i l))))))
 
-  pub answer-table : n ≤ maxOrders → ((i : ℕ) → i < n → side i ≤ 1)
-      → fillCountAnswer (table lot n) (table side n) ≡ record { refusal = 0; count = fillCount (table lot n) (table side n) }
-  unfolding fillCountAnswer
-  answer-table few known = rw (accepted few known)
+  pub answer_table : n ≤ max_orders → ((i : ℕ) → i < n → side i ≤ 1)
+      → fill_count_answer (table lot n) (table side n) ≡ record { refusal = 0; count = fill_count (table lot n) (table side n) }
+  unfolding fill_count_answer
+  answer_table few known = rw (accepted few known)
 
 -- the first lot above 0 stands at i, and h differs from g at i only
 pub record Split (g h : ℕ → ℕ) (n i : ℕ) : Type 0 where
@@ -85,18 +85,18 @@ split g h (suc n) zero l z e =
     record {
       rest = table (λ k. g (suc k)) n;
       old = refl;
-      new = ap (λ k. nonzero (h 0 ∷ k)) (table-same (λ k. h (suc k)) (λ k. g (suc k)) n (λ k m. e (suc k) (omega (arith, m)) (λ w. omega (arith, w))));
+      new = ap (λ k. nonzero (h 0 ∷ k)) (table_same (λ k. h (suc k)) (λ k. g (suc k)) n (λ k m. e (suc k) (omega (arith, m)) (λ w. omega (arith, w))));
     }
 split g h (suc n) (suc i) l z e =
     let S = split (λ k. g (suc k)) (λ k. h (suc k)) n i (omega (arith, l)) (λ j m. z (suc j) (omega (arith, m)))
     (λ j m q. e (suc j) (omega (arith, m)) (λ w. q (omega (arith, w)))) in
     record {
       rest = S.rest;
-      old = nonzero-none (g 0) _ (z 0 (omega arith)) ∙ S.old;
-      new = nonzero-none (h 0) _ (e 0 (omega arith) (λ w. omega (arith, w)) ∙ z 0 (omega arith)) ∙ S.new;
+      old = nonzero_none (g 0) _ (z 0 (omega arith)) ∙ S.old;
+      new = nonzero_none (h 0) _ (e 0 (omega arith) (λ w. omega (arith, w)) ∙ z 0 (omega arith)) ∙ S.new;
     }
 
 pub nothing : (g : ℕ → ℕ) (n : ℕ) → ((i : ℕ) → i < n → g i ≡ 0) → nonzero (table g n) ≡ []
 unfolding table nonzero keep
 nothing g zero z = refl
-nothing g (suc n) z = nonzero-none (g 0) (table (λ i. g (suc i)) n) (z 0 (omega arith)) ∙ nothing (λ i. g (suc i)) n (λ i l. z (suc i) (omega (arith, l)))
+nothing g (suc n) z = nonzero_none (g 0) (table (λ i. g (suc i)) n) (z 0 (omega arith)) ∙ nothing (λ i. g (suc i)) n (λ i l. z (suc i) (omega (arith, l)))

@@ -1,8 +1,8 @@
 -- Worked examples of the number of fills: case L, zero lots, sides unequal in total, sums above 64 bits, and each refusal. proofs/Examples.antt
 -- proves the table.
 use Rattle.std.specs.Prelude.{◌≡◌, List, [], ◌∷◌, ℕ, ◌+◌, ◌-◌, ◌^◌, replicate}
-use Rattle.credit_math.specs.Limits.{maxOrders}
-use Rattle.fills.specs.FillCount.{fillCountAnswer}
+use Rattle.credit_math.specs.Limits.{max_orders}
+use Rattle.fills.specs.FillCount.{fill_count_answer}
 
 pub record Example : Type 0 where
   pub lots : List ℕ
@@ -12,7 +12,7 @@ pub record Example : Type 0 where
 
 abbrev pub All : List Example → Type 0
 All [] = Unit
-All (e ∷ l) = (fillCountAnswer e.lots e.sides ≡ record { refusal = e.refusal; count = e.count }) × All l
+All (e ∷ l) = (fill_count_answer e.lots e.sides ≡ record { refusal = e.refusal; count = e.count }) × All l
 
 abbrev pub examples : List Example
 examples =
@@ -26,6 +26,6 @@ examples =
     ∷ record { lots = (2 ^ 64 - 1) ∷ (2 ^ 64 - 1) ∷ (2 ^ 64 - 2) ∷ []; sides = 0 ∷ 0 ∷ 1 ∷ []; refusal = 0; count = 3 }
     -- 30 comes before 4, and 4 also for a zero lot
     ∷ record { lots = 1 ∷ []; sides = []; refusal = 30; count = 0 }
-    ∷ record { lots = replicate (maxOrders + 1) 0; sides = replicate (maxOrders + 1) 2; refusal = 30; count = 0 }
+    ∷ record { lots = replicate (max_orders + 1) 0; sides = replicate (max_orders + 1) 2; refusal = 30; count = 0 }
     ∷ record { lots = 0 ∷ []; sides = 2 ∷ []; refusal = 4; count = 0 }
     ∷ []

@@ -2,13 +2,13 @@
 use Rattle.std.specs.Prelude.{◌≡◌, cond, List, [], ◌∷◌, ◌++◌, ℕ, ◌-◌, ◌≤◌, ltb, eqb, length, get_or, drop}
 use Rattle.laws.specs.Sums.{only}
 use Rattle.laws.specs.Lists.{table, keep}
-use Rattle.credit_math.specs.Limits.{maxOrders}
-use Rattle.fills.specs.FillCount.{partialSums, distinct}
+use Rattle.credit_math.specs.Limits.{max_orders}
+use Rattle.fills.specs.FillCount.{partial_sums, distinct}
 use Rattle.fills.specs.declared.Hand.{Hand}
 
 -- lists that are not refused for their lengths
 pub record Even (lots sides : List ℕ) : Type 0 where
-  pub few : length lots ≤ maxOrders
+  pub few : length lots ≤ max_orders
   pub same : length sides ≡ length lots
 
 -- lots above 0
@@ -16,16 +16,16 @@ unfoldable pub nonzero : List ℕ → List ℕ
 nonzero lots = keep (λ lot. ltb 0 lot) lots
 
 -- the fills that two lines of lots come to, zero lots left out
-unfoldable pub fillsOf : (buys sells : List ℕ) → ℕ
-fillsOf buys sells = distinct (partialSums (nonzero buys) ++ partialSums (nonzero sells))
+unfoldable pub fills_of : (buys sells : List ℕ) → ℕ
+fills_of buys sells = distinct (partial_sums (nonzero buys) ++ partial_sums (nonzero sells))
 
 -- order i's lot if it is of that side, else 0
-unfoldable pub lotOn : (side : ℕ) (lots sides : List ℕ) (i : ℕ) → ℕ
-lotOn side lots sides i = only (eqb (get_or sides i 0) side) (get_or lots i 0)
+unfoldable pub lot_on : (side : ℕ) (lots sides : List ℕ) (i : ℕ) → ℕ
+lot_on side lots sides i = only (eqb (get_or sides i 0) side) (get_or lots i 0)
 
 -- what is ahead of a hand on its side: what is left in it, and the lots from its place on
 unfoldable pub ahead : (side : ℕ) (lots sides : List ℕ) → Hand → List ℕ
-ahead side lots sides hand = hand.left ∷ drop hand.next (table (lotOn side lots sides) (length lots))
+ahead side lots sides hand = hand.left ∷ drop hand.next (table (lot_on side lots sides) (length lots))
 
 -- a hand that has the next lot has the same lots ahead, and none where nothing is in it
 pub record Taken (side : ℕ) (lots sides : List ℕ) (hand taken : Hand) : Type 0 where
@@ -34,5 +34,5 @@ pub record Taken (side : ℕ) (lots sides : List ℕ) (hand taken : Hand) : Type
   pub within : taken.next ≤ length lots
 
 -- what a fill leaves of a lot
-abbrev pub lessOther : (lot other : ℕ) → ℕ
-lessOther lot other = cond (eqb other 0) 0 (lot - other)
+abbrev pub less_other : (lot other : ℕ) → ℕ
+less_other lot other = cond (eqb other 0) 0 (lot - other)

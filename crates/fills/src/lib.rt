@@ -3,8 +3,8 @@
 
 ghost use Rattle.std.specs.Prelude.{◌≡◌, ◌≤◌, length, get_or, leb};
 ghost use Rattle.laws.specs.Search.{every};
-ghost use Rattle.fills.specs.FillCount.{fillCount, fillCountRefusal, fillCountAnswer};
-ghost use Rattle.fills.specs.Steps.{Even, lessOther, Taken};
+ghost use Rattle.fills.specs.FillCount.{fill_count, fill_count_refusal, fill_count_answer};
+ghost use Rattle.fills.specs.Steps.{Even, less_other, Taken};
 
 use credit_math::MAX_ORDERS;
 use laws::checks::{either, unless};
@@ -25,7 +25,7 @@ pub struct FillCount {
 // The number of fills that the cranks will make, from the lots with their sides in book order.
 #[unsafe(no_mangle)]
 pub extern "C" fn fill_count(lots: &[u64], sides: &[u8]) -> FillCount
-    ensures { result ≡ fillCountAnswer lots.now sides.now }
+    ensures { result ≡ fill_count_answer lots.now sides.now }
 {
     let refusal = refusal_of(lots, sides);
     if refusal != 0 {
@@ -37,7 +37,7 @@ pub extern "C" fn fill_count(lots: &[u64], sides: &[u8]) -> FillCount
 
 // 30, then 4.
 fn refusal_of(lots: &[u64], sides: &[u8]) -> u8
-    ensures { result ≡ fillCountRefusal lots.now sides.now }
+    ensures { result ≡ fill_count_refusal lots.now sides.now }
 {
     if MAX_ORDERS < lots.len() {
         return refusals::BAD_LENGTH;
@@ -73,7 +73,7 @@ struct Hand {
 // of the two lots in hand off both, as the crank does, and no sum is ever formed. Where one line has run out, a fill is a whole lot.
 fn counted(lots: &[u64], sides: &[u8]) -> u64
     requires { Even lots.now sides.now }
-    ensures { result ≡ fillCount lots.now sides.now }
+    ensures { result ≡ fill_count lots.now sides.now }
 {
     let nothing = Hand { left: 0, next: 0 };
     let mut buy = next_lot(lots, sides, BUY, nothing);
@@ -113,7 +113,7 @@ fn next_lot(lots: &[u64], sides: &[u8], side: u8, hand: Hand) -> Hand
 
 // What a fill leaves of a lot, against the other side's; nothing where the other side has none.
 fn less(lot: u64, other: u64) -> u64
-    ensures { result ≡ lessOther lot other }
+    ensures { result ≡ less_other lot other }
 {
     if other == 0 {
         return 0;

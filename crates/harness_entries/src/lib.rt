@@ -2,13 +2,13 @@
 #![tactic(auto)]
 
 ghost use Rattle.std.specs.Prelude.{◌≡◌, length};
-ghost use Rattle.book.specs.Book.{noWallet};
-ghost use Rattle.escrow.specs.Cover.{coverRefusal};
+ghost use Rattle.book.specs.Book.{no_wallet};
+ghost use Rattle.escrow.specs.Cover.{cover_refusal};
 ghost use Rattle.escrow.specs.declared.Cover.TheVariants.{Decimals};
-ghost use Rattle.credit_math.specs.Price.{priceRefusal, findUniformClearPrice};
-ghost use Rattle.credit_math.specs.SideTotals.{sideTotals};
-ghost use Rattle.credit_math.specs.ProRata.{share, remainder, proRataRefusal, allocateProRata};
-ghost use Rattle.order_slices.specs.Figures.{figuresOf};
+ghost use Rattle.credit_math.specs.Price.{price_refusal, find_uniform_clear_price};
+ghost use Rattle.credit_math.specs.SideTotals.{side_totals};
+ghost use Rattle.credit_math.specs.ProRata.{share, remainder, pro_rata_refusal, allocate_pro_rata};
+ghost use Rattle.order_slices.specs.Figures.{figures_of};
 ghost use Rattle.wide.specs.Value.{value, digits};
 ghost use Rattle.harness_entries.specs.Rows.{RowOf, RowSays};
 
@@ -25,7 +25,7 @@ pub extern "C" fn entry_find_uniform_clear_price(
     reserve: u64,
     reference: u64,
 ) -> Figures
-    ensures { result ≡ figuresOf (findUniformClearPrice is_buy.now limits.now qtys.now reserve reference) }
+    ensures { result ≡ figures_of (find_uniform_clear_price is_buy.now limits.now qtys.now reserve reference) }
 {
     let answer = credit_math::allocation::find_uniform_clear_price(
         is_buy, limits, qtys, reserve, reference,
@@ -40,8 +40,8 @@ pub extern "C" fn entry_allocate_pro_rata(
     qtys: &[u64],
     out: &mut [u64],
 ) -> u8
-    ensures { (result ≡ proRataRefusal ids.now qtys.now (length out.old) total)
-        × (out.new ≡ allocateProRata ids.now qtys.now total out.old) }
+    ensures { (result ≡ pro_rata_refusal ids.now qtys.now (length out.old) total)
+        × (out.new ≡ allocate_pro_rata ids.now qtys.now total out.old) }
 {
     credit_math::allocation::allocate_pro_rata(total, ids, qtys, out)
 }
@@ -94,8 +94,8 @@ pub extern "C" fn entry_side_totals(
     qtys: &[u64],
     row: usize,
 ) -> TotalsRow
-    ensures { RowOf (priceRefusal is_buy.now limits.now qtys.now)
-        (sideTotals is_buy.now limits.now qtys.now) row result }
+    ensures { RowOf (price_refusal is_buy.now limits.now qtys.now)
+        (side_totals is_buy.now limits.now qtys.now) row result }
 {
     let tabled = credit_math::side_totals::side_totals(is_buy, limits, qtys);
     let table = tabled.table;
@@ -132,7 +132,7 @@ pub extern "C" fn entry_cover_refusal(
     limit: u64,
     qty: u64,
 ) -> u8
-    ensures { result ≡ coverRefusal (Decimals decimals) (record { owner = noWallet; side = side; escrowed = escrowed; revealed = revealed; limit = limit; qty = qty }) }
+    ensures { result ≡ cover_refusal (Decimals decimals) (record { owner = no_wallet; side = side; escrowed = escrowed; revealed = revealed; limit = limit; qty = qty }) }
 {
     let row = Row {
         owner: [0; 32],

@@ -3,52 +3,52 @@
 use Rattle.std.specs.Prelude.{Bool, false, cond, not, ◌&&◌, List, [], ℕ, ◌*◌, ◌/◌, ◌%◌, min, ltb, eqb, get_or}
 use Rattle.laws.specs.Search.{some}
 use Rattle.laws.specs.Lists.{table, same}
-use Rattle.credit_math.specs.Limits.{maxOrders}
-use Rattle.book.specs.Limits.{maxFills}
-use Rattle.book.specs.Book.{orderIn, fillIn, noWallet, noInvestor}
+use Rattle.credit_math.specs.Limits.{max_orders}
+use Rattle.book.specs.Limits.{max_fills}
+use Rattle.book.specs.Book.{order_in, fill_in, no_wallet, no_investor}
 use Rattle.book.specs.declared.Order.{Order}
 use Rattle.book.specs.declared.Fill.{Fill}
-use Rattle.investors.specs.Participants.{firstOrder, moved}
+use Rattle.investors.specs.Participants.{first_order, moved}
 use Rattle.investors.specs.declared.participants.Party.{Party}
 use Rattle.investors.specs.declared.participants.Place.{Place}
 
 -- the party of a wallet: its id where it is known
-unfoldable pub partyOf : List Order → (n : ℕ) (key : List ℕ) → Party
-partyOf orders n key =
-    cond (ltb (firstOrder orders n key) (min n maxOrders))
-    (record { known = not (same (orderIn orders (firstOrder orders n key)).investor_id noInvestor); id = (orderIn orders (firstOrder orders n key)).investor_id; wallet = key })
-    (record { known = false; id = noInvestor; wallet = key })
+unfoldable pub party_of : List Order → (n : ℕ) (key : List ℕ) → Party
+party_of orders n key =
+    cond (ltb (first_order orders n key) (min n max_orders))
+    (record { known = not (same (order_in orders (first_order orders n key)).investor_id no_investor); id = (order_in orders (first_order orders n key)).investor_id; wallet = key })
+    (record { known = false; id = no_investor; wallet = key })
 
 -- the same id, or neither has one and the wallets are the same
-unfoldable pub sameParty : Party → Party → Bool
-sameParty a b = cond a.known (b.known && same a.id b.id) (not b.known && same a.wallet b.wallet)
+unfoldable pub same_party : Party → Party → Bool
+same_party a b = cond a.known (b.known && same a.id b.id) (not b.known && same a.wallet b.wallet)
 
-unfoldable pub walletAt : Fill → ℕ → List ℕ
-walletAt f k = cond (eqb (k % 2) 0) f.buyer f.seller
+unfoldable pub wallet_at : Fill → ℕ → List ℕ
+wallet_at f k = cond (eqb (k % 2) 0) f.buyer f.seller
 
-unfoldable pub placeOf : List Order → ℕ → List Fill → (skipped k : ℕ) → Place
-placeOf orders n fills skipped k =
-    record { moved = moved fills skipped (k / 2); who = partyOf orders n (walletAt (fillIn fills (k / 2)) k) }
+unfoldable pub place_of : List Order → ℕ → List Fill → (skipped k : ℕ) → Place
+place_of orders n fills skipped k =
+    record { moved = moved fills skipped (k / 2); who = party_of orders n (wallet_at (fill_in fills (k / 2)) k) }
 
 -- an unused place of the array
-abbrev pub blankPlace : Place
-blankPlace = record { moved = false; who = record { known = false; id = noInvestor; wallet = noWallet } }
+abbrev pub blank_place : Place
+blank_place = record { moved = false; who = record { known = false; id = no_investor; wallet = no_wallet } }
 
 -- the array with the first e places of the fills, and blank ones after them
-unfoldable pub placesOf : List Order → ℕ → List Fill → (skipped e : ℕ) → List Place
-placesOf orders n fills skipped e = table (λ k. cond (ltb k e) (placeOf orders n fills skipped k) blankPlace) (2 * maxFills)
+unfoldable pub places_of : List Order → ℕ → List Fill → (skipped e : ℕ) → List Place
+places_of orders n fills skipped e = table (λ k. cond (ltb k e) (place_of orders n fills skipped k) blank_place) (2 * max_fills)
 
 -- what stands past the end of an array, by the language: array fields are then empty
-abbrev pub noPlace : Place
-noPlace = record { moved = false; who = record { known = false; id = []; wallet = [] } }
+abbrev pub no_place : Place
+no_place = record { moved = false; who = record { known = false; id = []; wallet = [] } }
 
-abbrev pub placeIn : List Place → ℕ → Place
-placeIn places k = get_or places k noPlace
+abbrev pub place_in : List Place → ℕ → Place
+place_in places k = get_or places k no_place
 
 -- the same participant takes part at place j, in a fill that moved
-unfoldable pub takesPartAt : (ℕ → Place) → Party → ℕ → Bool
-takesPartAt place a j = (place j).moved && sameParty (place j).who a
+unfoldable pub takes_part_at : (ℕ → Place) → Party → ℕ → Bool
+takes_part_at place a j = (place j).moved && same_party (place j).who a
 
 -- a place of a fill that moved, whose participant takes part at no earlier such place
-unfoldable pub isNew : (ℕ → Place) → ℕ → Bool
-isNew place k = (place k).moved && not (some (takesPartAt place (place k).who) k)
+unfoldable pub is_new : (ℕ → Place) → ℕ → Bool
+is_new place k = (place k).moved && not (some (takes_part_at place (place k).who) k)

@@ -3,9 +3,9 @@ ghost use Rattle.std.specs.Prelude.{◌≡◌, true, false, not, ◌&&◌, ◌+�
 ghost use Rattle.laws.specs.Sums.{only};
 ghost use Rattle.laws.specs.Lists.{same};
 ghost use Rattle.wide.specs.Value.{value};
-ghost use Rattle.credit_math.specs.Limits.{maxOrders};
-ghost use Rattle.book.specs.Book.{orderIn, isLive, isBuy, noInvestor};
-ghost use Rattle.investors.specs.Exclusion.{selfTrade, cashOf, investorExclusion};
+ghost use Rattle.credit_math.specs.Limits.{max_orders};
+ghost use Rattle.book.specs.Book.{order_in, is_live, is_buy, no_investor};
+ghost use Rattle.investors.specs.Exclusion.{self_trade, cash_of, investor_exclusion};
 
 use book::Order;
 use credit_math::MAX_ORDERS;
@@ -30,7 +30,7 @@ pub fn investor_exclusion(
     id: [u8; 16],
     max_cash: u64,
 ) -> u8
-    ensures { result ≡ investorExclusion orders order_count index id max_cash }
+    ensures { result ≡ investor_exclusion orders order_count index id max_cash }
 {
     let n = book::clear::at_most_orders(order_count);
     let own = own_of(orders, index);
@@ -49,7 +49,7 @@ pub fn investor_exclusion(
 
 // Both in one reading: each function that reads the orders at an index copies them.
 fn own_of(orders: [Order; MAX_ORDERS], i: usize) -> Own
-    ensures { (result.side ≡ (orderIn orders i).side) × (result.escrowed ≡ (orderIn orders i).escrowed) }
+    ensures { (result.side ≡ (order_in orders i).side) × (result.escrowed ≡ (order_in orders i).escrowed) }
 {
     if i < MAX_ORDERS {
         let o = orders[i];
@@ -72,8 +72,8 @@ fn trades_itself(
     id: [u8; 16],
     side: u8,
 ) -> bool
-    requires { (n ≤ maxOrders) × (side ≡ (orderIn orders index).side) }
-    ensures { result ≡ selfTrade orders n index id }
+    requires { (n ≤ max_orders) × (side ≡ (order_in orders index).side) }
+    ensures { result ≡ self_trade orders n index id }
 {
     let mut j = 0;
     while j < n {
@@ -88,7 +88,7 @@ fn trades_itself(
 
 // Another live order of the investor's, on the other side.
 fn opposes(o: Order, j: usize, index: usize, id: [u8; 16], side: u8) -> bool
-    ensures { result ≡ (not (eqb j index) && isLive o && not (same o.investor_id noInvestor) && same o.investor_id id) && not (eqb o.side side) }
+    ensures { result ≡ (not (eqb j index) && is_live o && not (same o.investor_id no_investor) && same o.investor_id id) && not (eqb o.side side) }
 {
     if is_other(o, j, index, id) {
         return o.side != side;
@@ -98,7 +98,7 @@ fn opposes(o: Order, j: usize, index: usize, id: [u8; 16], side: u8) -> bool
 
 // Whether o, order j, is another live order of the investor.
 fn is_other(o: Order, j: usize, index: usize, id: [u8; 16]) -> bool
-    ensures { result ≡ not (eqb j index) && isLive o && not (same o.investor_id noInvestor) && same o.investor_id id }
+    ensures { result ≡ not (eqb j index) && is_live o && not (same o.investor_id no_investor) && same o.investor_id id }
 {
     let own = o.investor_id;
     if j == index {
@@ -115,8 +115,8 @@ fn is_other(o: Order, j: usize, index: usize, id: [u8; 16]) -> bool
 
 // The escrow of the order itself, `escrowed`, and of the investor's other buys.
 fn cash_of(orders: [Order; MAX_ORDERS], n: usize, index: usize, id: [u8; 16], escrowed: u64) -> Wide
-    requires { (n ≤ maxOrders) × (escrowed ≡ (orderIn orders index).escrowed) }
-    ensures { value result ≡ cashOf orders n index id }
+    requires { (n ≤ max_orders) × (escrowed ≡ (order_in orders index).escrowed) }
+    ensures { value result ≡ cash_of orders n index id }
 {
     let mut sum = wide::of_word(escrowed);
     let mut j = 0;
@@ -130,7 +130,7 @@ fn cash_of(orders: [Order; MAX_ORDERS], n: usize, index: usize, id: [u8; 16], es
 
 // The cash of another live buy of the investor's.
 fn cash_in(o: Order, j: usize, index: usize, id: [u8; 16]) -> u64
-    ensures { result ≡ only ((not (eqb j index) && isLive o && not (same o.investor_id noInvestor) && same o.investor_id id) && isBuy o) o.escrowed }
+    ensures { result ≡ only ((not (eqb j index) && is_live o && not (same o.investor_id no_investor) && same o.investor_id id) && is_buy o) o.escrowed }
 {
     if is_other(o, j, index, id) {
         if o.side == 0 {

@@ -3,12 +3,12 @@ ghost use Rattle.std.specs.Prelude.{◌≡◌, true, false, not, ◌&&◌, ◌+�
 ghost use Rattle.laws.specs.Sums.{count};
 ghost use Rattle.laws.specs.Search.{some};
 ghost use Rattle.laws.specs.Lists.{same};
-ghost use Rattle.laws.specs.Bits.{isSet};
-ghost use Rattle.credit_math.specs.Limits.{maxOrders};
-ghost use Rattle.book.specs.Limits.{maxFills};
-ghost use Rattle.book.specs.Book.{noInvestor};
-ghost use Rattle.investors.specs.Participants.{distinctParticipants};
-ghost use Rattle.investors.specs.Places.{partyOf, sameParty, walletAt, placesOf, placeIn, takesPartAt, isNew};
+ghost use Rattle.laws.specs.Bits.{is_set};
+ghost use Rattle.credit_math.specs.Limits.{max_orders};
+ghost use Rattle.book.specs.Limits.{max_fills};
+ghost use Rattle.book.specs.Book.{no_investor};
+ghost use Rattle.investors.specs.Participants.{distinct_participants};
+ghost use Rattle.investors.specs.Places.{party_of, same_party, wallet_at, places_of, place_in, takes_part_at, is_new};
 
 use book::{Fill, MAX_FILLS, Order};
 use credit_math::MAX_ORDERS;
@@ -39,7 +39,7 @@ pub fn distinct_participants(
     fill_count: usize,
     skipped: u32,
 ) -> u64
-    ensures { result ≡ distinctParticipants orders order_count fills skipped fill_count }
+    ensures { result ≡ distinct_participants orders order_count fills skipped fill_count }
 {
     let m = at_most_fills(fill_count);
     let places = places_of(orders, order_count, fills, m, skipped);
@@ -47,7 +47,7 @@ pub fn distinct_participants(
 }
 
 fn at_most_fills(m: usize) -> usize
-    ensures { result ≡ min m maxFills }
+    ensures { result ≡ min m max_fills }
 {
     if m < MAX_FILLS { m } else { MAX_FILLS }
 }
@@ -60,8 +60,8 @@ fn places_of(
     m: usize,
     skipped: u32,
 ) -> [Place; MAX_PLACES]
-    requires { m ≤ maxFills }
-    ensures { result ≡ placesOf orders n fills skipped (2 * m) }
+    requires { m ≤ max_fills }
+    ensures { result ≡ places_of orders n fills skipped (2 * m) }
 {
     let nobody = Party {
         known: false,
@@ -85,8 +85,8 @@ fn places_of(
 
 // Who stands at place k, of its fill f.
 fn place_of(orders: [Order; MAX_ORDERS], n: usize, f: Fill, skipped: u32, k: usize) -> Place
-    requires { k < 2 * maxFills }
-    ensures { result ≡ record { moved = not (eqb f.qty 0) && not (isSet skipped (k / 2)); who = partyOf orders n (walletAt f k) } }
+    requires { k < 2 * max_fills }
+    ensures { result ≡ record { moved = not (eqb f.qty 0) && not (is_set skipped (k / 2)); who = party_of orders n (wallet_at f k) } }
 {
     let w = wallet_at(f, k);
     let who = party_of(orders, n, w);
@@ -99,8 +99,8 @@ fn place_of(orders: [Order; MAX_ORDERS], n: usize, f: Fill, skipped: u32, k: usi
 
 // A fill with a quantity that was not skipped.
 fn has_moved(f: Fill, skipped: u32, i: u32) -> bool
-    requires { i < maxFills }
-    ensures { result ≡ not (eqb f.qty 0) && not (isSet skipped i) }
+    requires { i < max_fills }
+    ensures { result ≡ not (eqb f.qty 0) && not (is_set skipped i) }
 {
     if f.qty == 0 {
         return false;
@@ -110,7 +110,7 @@ fn has_moved(f: Fill, skipped: u32, i: u32) -> bool
 
 // Bit i of the skip word; a place past its width is not set.
 pub fn is_skipped(skipped: u32, i: u32) -> bool
-    ensures { result ≡ isSet skipped i }
+    ensures { result ≡ is_set skipped i }
 {
     if i < 32 {
         return (skipped >> i) % 2 == 1;
@@ -120,7 +120,7 @@ pub fn is_skipped(skipped: u32, i: u32) -> bool
 
 // The wallet at a place: even places are buyers, odd ones sellers.
 fn wallet_at(f: Fill, k: usize) -> [u8; 32]
-    ensures { result ≡ walletAt f k }
+    ensures { result ≡ wallet_at f k }
 {
     if k % 2 == 0 {
         return f.buyer;
@@ -130,7 +130,7 @@ fn wallet_at(f: Fill, k: usize) -> [u8; 32]
 
 // Who a wallet counts as: by its first order, where it has one.
 fn party_of(orders: [Order; MAX_ORDERS], order_count: usize, w: [u8; 32]) -> Party
-    ensures { result ≡ partyOf orders order_count w }
+    ensures { result ≡ party_of orders order_count w }
 {
     let n = book::clear::at_most_orders(order_count);
     let mut i = 0;
@@ -151,7 +151,7 @@ fn party_of(orders: [Order; MAX_ORDERS], order_count: usize, w: [u8; 32]) -> Par
 
 // Who a wallet counts as whose first order is o.
 fn party_by(o: Order, w: [u8; 32]) -> Party
-    ensures { result ≡ record { known = not (same o.investor_id noInvestor); id = o.investor_id; wallet = w } }
+    ensures { result ≡ record { known = not (same o.investor_id no_investor); id = o.investor_id; wallet = w } }
 {
     let id = o.investor_id;
     let none = book::same_id(id, [0; 16]);
@@ -164,8 +164,8 @@ fn party_by(o: Order, w: [u8; 32]) -> Party
 
 // How many places have a party that no place before has.
 fn count_new(places: [Place; MAX_PLACES], n: usize) -> u64
-    requires { n ≤ 2 * maxFills }
-    ensures { result ≡ count (isNew (placeIn places)) n }
+    requires { n ≤ 2 * max_fills }
+    ensures { result ≡ count (is_new (place_in places)) n }
 {
     let mut new = 0;
     let mut k = 0;
@@ -180,8 +180,8 @@ fn count_new(places: [Place; MAX_PLACES], n: usize) -> u64
 // Whether p, place k, is of a fill that moved, and its participant takes part at no earlier such place. The caller reads p, so that no places are
 // copied for a fill that did not move.
 fn is_new(places: [Place; MAX_PLACES], k: usize, p: Place) -> bool
-    requires { k < 2 * maxFills }
-    ensures { result ≡ p.moved && not (some (takesPartAt (placeIn places) p.who) k) }
+    requires { k < 2 * max_fills }
+    ensures { result ≡ p.moved && not (some (takes_part_at (place_in places) p.who) k) }
 {
     let who = p.who;
     if p.moved {
@@ -192,8 +192,8 @@ fn is_new(places: [Place; MAX_PLACES], k: usize, p: Place) -> bool
 
 // Whether a takes part at a place before k, in a fill that moved.
 fn seen_before(places: [Place; MAX_PLACES], k: usize, a: Party) -> bool
-    requires { k < 2 * maxFills }
-    ensures { result ≡ some (takesPartAt (placeIn places) a) k }
+    requires { k < 2 * max_fills }
+    ensures { result ≡ some (takes_part_at (place_in places) a) k }
 {
     let mut j = 0;
     while j < k {
@@ -207,7 +207,7 @@ fn seen_before(places: [Place; MAX_PLACES], k: usize, a: Party) -> bool
 }
 
 fn takes_part_at(p: Place, a: Party) -> bool
-    ensures { result ≡ p.moved && sameParty p.who a }
+    ensures { result ≡ p.moved && same_party p.who a }
 {
     let who = p.who;
     if p.moved {
@@ -217,7 +217,7 @@ fn takes_part_at(p: Place, a: Party) -> bool
 }
 
 fn same_party(a: Party, b: Party) -> bool
-    ensures { result ≡ sameParty a b }
+    ensures { result ≡ same_party a b }
 {
     let x = a.id;
     let y = b.id;

@@ -4,7 +4,7 @@ use mathlib.Core.Logic.{⊎_elim}
 use Prim.Native.Nat.{ℕ, zero, suc, ◌≤◌, ◌<◌}
 use native.Mathlib.Nat.{le_antisymm, le_of_suc-le-suc, eq-or-lt_of_le}
 use native.Mathlib.Omega.{arith}
-use Rattle.laws.proofs.Tests.{lt-or-le}
+use Rattle.laws.proofs.Tests.{lt_or_le}
 
 -- each of the first m values is above those before it
 abbrev pub Ascends : (ℕ → ℕ) → ℕ → Type 0
@@ -23,7 +23,7 @@ reaches f m g n up up' among k alike h =
       omega (arith, r.1),
       ⊎_elim (λ (e : k ≡ r.0). omega (arith, ap g e, r.2)) (λ (b : k < r.0). let c = up' k r.0 b r.1 in omega (arith, r.2)) (eq-or-lt_of_le a),
     ))
-    (lt-or-le r.0 k)
+    (lt_or_le r.0 k)
 
 module _ (f : ℕ → ℕ) (m : ℕ) (g : ℕ → ℕ) (n : ℕ) (up : Ascends f m) (up' : Ascends g n) (among : Among f m g n) (among' : Among g n f m) where
   -- alike before k, they are alike at k
@@ -40,13 +40,13 @@ module _ (f : ℕ → ℕ) (m : ℕ) (g : ℕ → ℕ) (n : ℕ) (up : Ascends f
       (λ (e : i ≡ k). subst (λ (j : ℕ). (j < n) × (f j ≡ g j)) (sym e) (next k (λ j a. (alike k j a (omega arith)).1) (subst (λ (j : ℕ). j < m) e l)))
       (λ (a : i < k). alike k i a l) (eq-or-lt_of_le (le_of_suc-le-suc h))
 
-  no-more : m ≤ n
-  no-more = ⊎_elim (λ (h : n < m). let a = (alike (suc n) n (omega arith) h).0 in absurd (omega (arith, a))) (λ (h : m ≤ n). h) (lt-or-le n m)
+  no_more : m ≤ n
+  no_more = ⊎_elim (λ (h : n < m). let a = (alike (suc n) n (omega arith) h).0 in absurd (omega (arith, a))) (λ (h : m ≤ n). h) (lt_or_le n m)
 
-  alike-all : (k : ℕ) → k < m → f k ≡ g k
-  alike-all k h = (alike (suc k) k (omega arith) h).1
+  alike_all : (k : ℕ) → k < m → f k ≡ g k
+  alike_all k h = (alike (suc k) k (omega arith) h).1
 
 -- as many values, and each is the other's
-pub one-ascent : (f : ℕ → ℕ) (m : ℕ) (g : ℕ → ℕ) (n : ℕ) → Ascends f m → Ascends g n → Among f m g n → Among g n f m → (m ≡ n) × ((k : ℕ) → k < m → f k ≡ g k)
-one-ascent f m g n up up' among among' =
-    (le_antisymm (no-more f m g n up up' among among') (no-more g n f m up' up among' among), alike-all f m g n up up' among among')
+pub one_ascent : (f : ℕ → ℕ) (m : ℕ) (g : ℕ → ℕ) (n : ℕ) → Ascends f m → Ascends g n → Among f m g n → Among g n f m → (m ≡ n) × ((k : ℕ) → k < m → f k ≡ g k)
+one_ascent f m g n up up' among among' =
+    (le_antisymm (no_more f m g n up up' among among') (no_more g n f m up' up among' among), alike_all f m g n up up' among among')

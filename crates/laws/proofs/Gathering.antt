@@ -11,33 +11,33 @@ use lib.Seq.{take-suc-set, take-set-le}
 use Rattle.laws.specs.Sums.{only}
 use Rattle.laws.specs.Lists.{table, keep}
 
-pub keep-append : {A : Type 0} (p : A → Bool) (l k : List A) → keep p (l ++ k) ≡ keep p l ++ keep p k
+pub keep_append : {A : Type 0} (p : A → Bool) (l k : List A) → keep p (l ++ k) ≡ keep p l ++ keep p k
 unfolding keep
-keep-append p [] k = refl
-keep-append p (x ∷ l) k = go (p x) (keep-append p l k)
+keep_append p [] k = refl
+keep_append p (x ∷ l) k = go (p x) (keep_append p l k)
   where
     go : (b : Bool) → keep p (l ++ k) ≡ keep p l ++ keep p k → cond b (x ∷ keep p (l ++ k)) (keep p (l ++ k)) ≡ cond b (x ∷ keep p l) (keep p l) ++ keep p k
     go true ih = ap (x ∷◌) ih
     go false ih = ih
 
-pub map-append : {A B : Type 0} (f : A → B) (l k : List A) → map f (l ++ k) ≡ map f l ++ map f k
-map-append f [] k = refl
-map-append f (x ∷ l) k = ap (f x ∷◌) (map-append f l k)
+pub map_append : {A B : Type 0} (f : A → B) (l k : List A) → map f (l ++ k) ≡ map f l ++ map f k
+map_append f [] k = refl
+map_append f (x ∷ l) k = ap (f x ∷◌) (map_append f l k)
 
-pub keep-short : {A : Type 0} (p : A → Bool) (l : List A) → length (keep p l) ≤ length l
+pub keep_short : {A : Type 0} (p : A → Bool) (l : List A) → length (keep p l) ≤ length l
 unfolding keep
-keep-short p [] = zero-le
-keep-short p (x ∷ l) = go (p x) (keep-short p l)
+keep_short p [] = zero-le
+keep_short p (x ∷ l) = go (p x) (keep_short p l)
   where
     go : (b : Bool) → length (keep p l) ≤ length l → length (cond b (x ∷ keep p l) (keep p l)) ≤ suc (length l)
     go true ih = omega arith
     go false ih = omega arith
 
 -- a table with one more entry
-pub table-more : {A : Type 0} (f : ℕ → A) (n : ℕ) → table f (suc n) ≡ table f n ++ (f n ∷ [])
+pub table_more : {A : Type 0} (f : ℕ → A) (n : ℕ) → table f (suc n) ≡ table f n ++ (f n ∷ [])
 unfolding table
-table-more f zero = refl
-table-more f (suc n) = ap (f 0 ∷◌) (table-more (λ i. f (suc i)) n)
+table_more f zero = refl
+table_more f (suc n) = ap (f 0 ∷◌) (table_more (λ i. f (suc i)) n)
 
 -- the first `count` places hold what f says of those of l that pass
 pub record Gathering {A B : Type 0} (p : A → Bool) (f : A → B) (n : ℕ) (l : List A) (count : ℕ) (out : List B) : Type 0 where
@@ -51,13 +51,13 @@ module _ {A B : Type 0} {p : A → Bool} {f : A → B} {n : ℕ} where
   gathering e = record { whole = e; held = refl; done = refl }
 
   module _ {l : List A} {count : ℕ} {out : List B} (x : A) (v : B) (g : Gathering p f n l count out) (room : count < n) (is : v ≡ f x) where
-    kept-on : p x ≡ true → keep p (l ++ (x ∷ [])) ≡ keep p l ++ (x ∷ [])
+    kept_on : p x ≡ true → keep p (l ++ (x ∷ [])) ≡ keep p l ++ (x ∷ [])
     unfolding keep
-    kept-on t = rw (keep-append p l (x ∷ []), t)
+    kept_on t = rw (keep_append p l (x ∷ []), t)
 
     passed : p x ≡ false → keep p (l ++ (x ∷ [])) ≡ keep p l
     unfolding keep
-    passed t = rw (keep-append p l (x ∷ []), t) (append-nil (keep p l))
+    passed t = rw (keep_append p l (x ∷ []), t) (append-nil (keep p l))
 
     inside : count < length out
     inside = subst (λ (m : ℕ). count < m) (sym g.whole) room
@@ -65,10 +65,10 @@ module _ {A B : Type 0} {p : A → Bool} {f : A → B} {n : ℕ} where
     go : (b : Bool) → p x ≡ b → Gathering p f n (l ++ (x ∷ [])) (count + only b 1) (set out count v)
     go true t = record {
       whole = length-set out count v ∙ g.whole;
-      held = omega (arith, g.held, ap length (kept-on t), length-append (keep p l) (x ∷ []));
+      held = omega (arith, g.held, ap length (kept_on t), length-append (keep p l) (x ∷ []));
       done =
-          ap (λ (k : ℕ). take k (set out count v)) (add-one count) ∙ take-suc-set out count v inside ∙ rw (g.done, is) (sym (map-append f (keep p l) (x ∷ [])))
-          ∙ ap (map f) (sym (kept-on t));
+          ap (λ (k : ℕ). take k (set out count v)) (add-one count) ∙ take-suc-set out count v inside ∙ rw (g.done, is) (sym (map_append f (keep p l) (x ∷ [])))
+          ∙ ap (map f) (sym (kept_on t));
     }
     go false t = record {
       whole = length-set out count v ∙ g.whole;
@@ -77,9 +77,9 @@ module _ {A B : Type 0} {p : A → Bool} {f : A → B} {n : ℕ} where
     }
 
     -- one more, written at the next place
-    pub gathering-more : (b : Bool) → b ≡ p x → Gathering p f n (l ++ (x ∷ [])) (count + only b 1) (set out count v)
-    gathering-more b e = go b (sym e)
+    pub gathering_more : (b : Bool) → b ≡ p x → Gathering p f n (l ++ (x ∷ [])) (count + only b 1) (set out count v)
+    gathering_more b e = go b (sym e)
 
   -- no more are kept than were seen
-  pub gathering-few : {l : List A} {count : ℕ} {out : List B} → Gathering p f n l count out → count ≤ length l
-  gathering-few {l} {count} {out} g = omega (arith, g.held, keep-short p l)
+  pub gathering_few : {l : List A} {count : ℕ} {out : List B} → Gathering p f n l count out → count ≤ length l
+  gathering_few {l} {count} {out} g = omega (arith, g.held, keep_short p l)

@@ -4,25 +4,25 @@ use Prim.Native.Nat.{ℕ, zero, suc, ◌+◌, ◌*◌, ◌%◌, ◌^◌, ◌≤�
 use native.Mathlib.Nat.{mul-le-mul_right, suc-mul, mod-eq_of_lt, lt_of_lt_of_le, le_of_lt, le_refl, le_antisymm}
 use native.Mathlib.Numerals.{add-one}
 use native.Mathlib.Omega.{arith}
-use Rattle.laws.specs.Sums.{sumBelow}
-use Rattle.laws.proofs.Sums.{sum-none, sum-suc, sum-more, sum-step, sum-le}
+use Rattle.laws.specs.Sums.{sum_below}
+use Rattle.laws.proofs.Sums.{sum_none, sum_suc, sum_more, sum_step, sum_le}
 
 -- v is at most what i numbers of k bits come to
 unfoldable pub AtMost : (k i v : ℕ) → Type 0
 AtMost k i v = v ≤ i * 2 ^ k
 
 module _ (k : ℕ) where
-  pub none-at-most : (v : ℕ) → v ≡ 0 → AtMost k 0 v
+  pub none_at_most : (v : ℕ) → v ≡ 0 → AtMost k 0 v
   unfolding AtMost
-  none-at-most v e = omega (arith, e)
+  none_at_most v e = omega (arith, e)
 
-  pub one-at-most : (v x : ℕ) → v ≡ x → x < 2 ^ k → AtMost k 1 v
+  pub one_at_most : (v x : ℕ) → v ≡ x → x < 2 ^ k → AtMost k 1 v
   unfolding AtMost
-  one-at-most v x e h = omega (arith, e)
+  one_at_most v x e h = omega (arith, e)
 
-  pub one-more : (i v x : ℕ) → AtMost k i v → x < 2 ^ k → AtMost k (i + 1) (v + x)
+  pub one_more : (i v x : ℕ) → AtMost k i v → x < 2 ^ k → AtMost k (i + 1) (v + x)
   unfolding AtMost
-  one-more i v x h f = omega (arith, suc-mul i (2 ^ k), ap (λ (m : ℕ). m * 2 ^ k) (add-one i))
+  one_more i v x h f = omega (arith, suc-mul i (2 ^ k), ap (λ (m : ℕ). m * 2 ^ k) (add-one i))
 
   -- one term more stays below what n terms come to
   pub below : (i v x n : ℕ) → AtMost k i v → x < 2 ^ k → i < n → v + x < n * 2 ^ k
@@ -30,44 +30,44 @@ module _ (k : ℕ) where
   below i v x n h f l = omega (arith, mul-le-mul_right (2 ^ k) l, suc-mul i (2 ^ k))
 
   -- n numbers come to less than n times 2 ^ k
-  pub sum-below : (f : ℕ → ℕ) (n : ℕ) → ((i : ℕ) → f i < 2 ^ k) → 0 < n → sumBelow f n < n * 2 ^ k
+  pub sum_below_lem : (f : ℕ → ℕ) (n : ℕ) → ((i : ℕ) → f i < 2 ^ k) → 0 < n → sum_below f n < n * 2 ^ k
   unfolding AtMost
-  sum-below f zero h l = absurd (omega arith)
-  sum-below f (suc n) h l = rw (sum-suc f n) (below n (sumBelow f n) (f n) (suc n) (sum-le (2 ^ k) f n (λ i _. le_of_lt (h i))) (h n) (le_refl (suc n)))
+  sum_below_lem f zero h l = absurd (omega arith)
+  sum_below_lem f (suc n) h l = rw (sum_suc f n) (below n (sum_below f n) (f n) (suc n) (sum_le (2 ^ k) f n (λ i _. le_of_lt (h i))) (h n) (le_refl (suc n)))
 
 -- v is the sum of the first i of the numbers f, each of k bits
 pub record Summing (k : ℕ) (f : ℕ → ℕ) (i v : ℕ) : Type 0 where
-  pub is : v ≡ sumBelow f i
+  pub is : v ≡ sum_below f i
   pub short : AtMost k i v
 
 module _ {k : ℕ} {f : ℕ → ℕ} where
   pub summing : {v : ℕ} → v ≡ 0 → Summing k f 0 v
-  summing {v} e = record { is = e ∙ sym (sum-none f); short = none-at-most k v e }
+  summing {v} e = record { is = e ∙ sym (sum_none f); short = none_at_most k v e }
 
-  pub summing-more : {i v : ℕ} (x v' : ℕ) → Summing k f i v → x ≡ f i → x < 2 ^ k → v' ≡ v + x → Summing k f (i + 1) v'
-  summing-more {i} {v} x v' s e h a = record { is = sum-step f i v x v' a s.is e; short = subst (λ (n : ℕ). AtMost k (i + 1) n) (sym a) (one-more k i v x s.short h) }
+  pub summing_more : {i v : ℕ} (x v' : ℕ) → Summing k f i v → x ≡ f i → x < 2 ^ k → v' ≡ v + x → Summing k f (i + 1) v'
+  summing_more {i} {v} x v' s e h a = record { is = sum_step f i v x v' a s.is e; short = subst (λ (n : ℕ). AtMost k (i + 1) n) (sym a) (one_more k i v x s.short h) }
 
   -- the same for a sum that is kept modulo m, where n terms fit
-  pub summing-mod : (m n : ℕ) → n * 2 ^ k ≤ m → {i v : ℕ} (x v' : ℕ) → Summing k f i v → i < n → x ≡ f i → x < 2 ^ k → v' ≡ (v + x) % m → Summing k f (i + 1) v'
-  summing-mod m n fits {i} {v} x v' s l e h a =
-      summing-more x v' s e h (a ∙ mod-eq_of_lt (lt_of_lt_of_le (below k i v x n s.short h l) fits))
+  pub summing_mod : (m n : ℕ) → n * 2 ^ k ≤ m → {i v : ℕ} (x v' : ℕ) → Summing k f i v → i < n → x ≡ f i → x < 2 ^ k → v' ≡ (v + x) % m → Summing k f (i + 1) v'
+  summing_mod m n fits {i} {v} x v' s l e h a =
+      summing_more x v' s e h (a ∙ mod-eq_of_lt (lt_of_lt_of_le (below k i v x n s.short h l) fits))
 
 -- v is the sum of s and the first i of the numbers f, all of k bits
 pub record SummingFrom (k s : ℕ) (f : ℕ → ℕ) (i v : ℕ) : Type 0 where
-  pub is : v ≡ s + sumBelow f i
+  pub is : v ≡ s + sum_below f i
   pub short : AtMost k (i + 1) v
 
 module _ {k s : ℕ} {f : ℕ → ℕ} where
-  pub summing-from : {v : ℕ} → v ≡ s → s < 2 ^ k → SummingFrom k s f 0 v
-  summing-from {v} e h = record { is = omega (arith, e, sum-none f); short = one-at-most k v s e h }
+  pub summing_from : {v : ℕ} → v ≡ s → s < 2 ^ k → SummingFrom k s f 0 v
+  summing_from {v} e h = record { is = omega (arith, e, sum_none f); short = one_at_most k v s e h }
 
-  pub summing-from-mod : (m n : ℕ) → (n + 1) * 2 ^ k ≤ m → {i v : ℕ} (x v' : ℕ) → SummingFrom k s f i v → i < n → x ≡ f i → x < 2 ^ k → v' ≡ (v + x) % m → SummingFrom k s f (i + 1) v'
-  summing-from-mod m n fits {i} {v} x v' t l e h a =
+  pub summing_from_mod : (m n : ℕ) → (n + 1) * 2 ^ k ≤ m → {i v : ℕ} (x v' : ℕ) → SummingFrom k s f i v → i < n → x ≡ f i → x < 2 ^ k → v' ≡ (v + x) % m → SummingFrom k s f (i + 1) v'
+  summing_from_mod m n fits {i} {v} x v' t l e h a =
       let b : v' ≡ v + x = a ∙ mod-eq_of_lt (lt_of_lt_of_le (below k (i + 1) v x (n + 1) t.short h (omega arith)) fits) in
       record {
-        is = omega (arith, b, e, t.is, sum-more f i);
-        short = subst (λ (w : ℕ). AtMost k (i + 1 + 1) w) (sym b) (one-more k (i + 1) v x t.short h);
+        is = omega (arith, b, e, t.is, sum_more f i);
+        short = subst (λ (w : ℕ). AtMost k (i + 1 + 1) w) (sym b) (one_more k (i + 1) v x t.short h);
       }
 
-  pub summed-from : {i v : ℕ} (n : ℕ) → SummingFrom k s f i v → i ≤ n → n ≤ i → v ≡ s + sumBelow f n
-  summed-from {i} {v} n t l h = t.is ∙ ap (λ (m : ℕ). s + sumBelow f m) (le_antisymm l h)
+  pub summed_from : {i v : ℕ} (n : ℕ) → SummingFrom k s f i v → i ≤ n → n ≤ i → v ≡ s + sum_below f n
+  summed_from {i} {v} n t l h = t.is ∙ ap (λ (m : ℕ). s + sum_below f m) (le_antisymm l h)

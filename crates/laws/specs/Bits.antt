@@ -7,9 +7,9 @@ unfoldable pub bit : ℕ → ℕ → ℕ
 bit word i = word / 2 ^ i % 2
 
 -- bit i is set
-abbrev pub isSet : ℕ → ℕ → Bool
-isSet word i = eqb (bit word i) 1
+abbrev pub is_set : ℕ → ℕ → Bool
+is_set word i = eqb (bit word i) 1
 
 -- the word with bit i set
-unfoldable pub withBit : ℕ → ℕ → ℕ
-withBit word i = bit_or word (2 ^ i)
+unfoldable pub with_bit : ℕ → ℕ → ℕ
+with_bit word i = bit_or word (2 ^ i)

@@ -2,9 +2,9 @@
 use Rattle.std.specs.Prelude.{Bool, cond, List, ℕ, zero, suc, ◌+◌, length, get_or}
 
 -- f 0 + f 1 + .. + f (n - 1)
-unfoldable pub sumBelow : (ℕ → ℕ) → ℕ → ℕ
-sumBelow f zero = 0
-sumBelow f (suc n) = sumBelow f n + f n
+unfoldable pub sum_below : (ℕ → ℕ) → ℕ → ℕ
+sum_below f zero = 0
+sum_below f (suc n) = sum_below f n + f n
 
 -- n where the test holds, else 0
 abbrev pub only : Bool → ℕ → ℕ
@@ -12,12 +12,12 @@ only test n = cond test n 0
 
 -- how many of the numbers below n pass
 unfoldable pub count : (ℕ → Bool) → ℕ → ℕ
-count p n = sumBelow (λ i. only (p i) 1) n
+count p n = sum_below (λ i. only (p i) 1) n
 
 -- the numbers of a list added up
-unfoldable pub sumOf : List ℕ → ℕ
-sumOf l = sumBelow (λ i. get_or l i 0) (length l)
+unfoldable pub sum_of : List ℕ → ℕ
+sum_of l = sum_below (λ i. get_or l i 0) (length l)
 
 -- f of the first n elements added up; none stands for an element past the end
-unfoldable pub sumOver : {A : Type 0} → (A → ℕ) → A → List A → ℕ → ℕ
-sumOver f none l n = sumBelow (λ i. f (get_or l i none)) n
+unfoldable pub sum_over : {A : Type 0} → (A → ℕ) → A → List A → ℕ → ℕ
+sum_over f none l n = sum_below (λ i. f (get_or l i none)) n

@@ -12,50 +12,50 @@ use lib.Seq.{take-suc}
 use Rattle.events.specs.declared.Event.{Event}
 use Rattle.events.specs.declared.Line.{Line}
 use Rattle.octets.specs.Puts.{Puts}
-use Rattle.octets.proofs.Spliced.{puts-puts}
+use Rattle.octets.proofs.Spliced.{puts_puts}
 use Rattle.listing.specs.declared.words.Word.{Word}
 use Rattle.listing.specs.declared.words.Parts.{Parts}
-use Rattle.listing.specs.Words.{noneWord, endWord, space, newline}
-use Rattle.listing.specs.Lines.{eventLine, eventLines, endLine}
+use Rattle.listing.specs.Words.{none_word, end_word, space, newline}
+use Rattle.listing.specs.Lines.{event_line, event_lines, end_line}
 use Rattle.listing.specs.Parts.{letters, parts, rest}
 
 -- the events that lines hold
-abbrev pub eventsOf : List Line → List Event
-eventsOf lines = map (λ l. l.event) lines
+abbrev pub events_of : List Line → List Event
+events_of lines = map (λ l. l.event) lines
 
 -- the lines of the first events: none, and one more
-pub lines-none : (number : ℕ) (l : List Line) → eventLines number (eventsOf (take 0 l)) ≡ []
-unfolding eventLines
-lines-none number l = refl
+pub lines_none : (number : ℕ) (l : List Line) → event_lines number (events_of (take 0 l)) ≡ []
+unfolding event_lines
+lines_none number l = refl
 
-lines-append : (number : ℕ) (es fs : List Event) → eventLines number (es ++ fs) ≡ eventLines number es ++ eventLines number fs
-unfolding eventLines
-lines-append number [] fs = refl
-lines-append number (e ∷ es) fs = rw (lines-append number es fs, append_assoc)
+lines_append : (number : ℕ) (es fs : List Event) → event_lines number (es ++ fs) ≡ event_lines number es ++ event_lines number fs
+unfolding event_lines
+lines_append number [] fs = refl
+lines_append number (e ∷ es) fs = rw (lines_append number es fs, append_assoc)
 
-pub lines-one : (number : ℕ) (e : Event) → eventLines number (e ∷ []) ≡ eventLine number e
-unfolding eventLines
-lines-one number e = append-nil (eventLine number e)
+pub lines_one : (number : ℕ) (e : Event) → event_lines number (e ∷ []) ≡ event_line number e
+unfolding event_lines
+lines_one number e = append-nil (event_line number e)
 
-pub lines-two : (number : ℕ) (e f : Event) → eventLines number (e ∷ f ∷ []) ≡ eventLine number e ++ eventLine number f
-unfolding eventLines
-lines-two number e f = ap (λ (l : List ℕ). eventLine number e ++ l) (append-nil (eventLine number f))
+pub lines_two : (number : ℕ) (e f : Event) → event_lines number (e ∷ f ∷ []) ≡ event_line number e ++ event_line number f
+unfolding event_lines
+lines_two number e f = ap (λ (l : List ℕ). event_line number e ++ l) (append-nil (event_line number f))
 
-lines-take : (number i : ℕ) (l : List Line) (d : Line) → i < length l
-    → eventLines number (eventsOf (take (i + 1) l)) ≡ eventLines number (eventsOf (take i l)) ++ eventLine number (get_or l i d).event
-lines-take number i l d h = rw (add-one, take-suc l i d h, map-append, lines-append, lines-one)
+lines_take : (number i : ℕ) (l : List Line) (d : Line) → i < length l
+    → event_lines number (events_of (take (i + 1) l)) ≡ event_lines number (events_of (take i l)) ++ event_line number (get_or l i d).event
+lines_take number i l d h = rw (add-one, take-suc l i d h, map-append, lines_append, lines_one)
 
 -- one event's line after those before it
-pub puts-event : (number i : ℕ) (l : List Line) (d : Line) {k r : ℕ} {e e' e'' : List ℕ} → Puts (eventLines number (eventsOf (take i l))) 0 k e e'
-    → Puts (eventLine number (get_or l i d).event) k r e' e'' → i < length l → Puts (eventLines number (eventsOf (take (i + 1) l))) 0 r e e''
-puts-event number i l d w v h = rw (lines-take number i l d h) (puts-puts w v (omega arith))
+pub puts_event : (number i : ℕ) (l : List Line) (d : Line) {k r : ℕ} {e e' e'' : List ℕ} → Puts (event_lines number (events_of (take i l))) 0 k e e'
+    → Puts (event_line number (get_or l i d).event) k r e' e'' → i < length l → Puts (event_lines number (events_of (take (i + 1) l))) 0 r e e''
+puts_event number i l d w v h = rw (lines_take number i l d h) (puts_puts w v (omega arith))
 
 -- the last line, with an accepted header and without
-pub end-rest : {accepted : Bool} (w : Word) (phase skipped q : ℕ) {p : Parts} → letters w ≡ endWord → accepted ≡ true → q ≡ ones skipped → p ≡ parts w (phase ∷ q ∷ [])
-    → rest p ≡ endLine accepted phase skipped
-unfolding endLine
-end-rest w phase skipped q is t s e = rw (e, is, t, s)
+pub end_rest : {accepted : Bool} (w : Word) (phase skipped q : ℕ) {p : Parts} → letters w ≡ end_word → accepted ≡ true → q ≡ ones skipped → p ≡ parts w (phase ∷ q ∷ [])
+    → rest p ≡ end_line accepted phase skipped
+unfolding end_line
+end_rest w phase skipped q is t s e = rw (e, is, t, s)
 
-pub end-none : {accepted : Bool} (phase skipped : ℕ) → accepted ≡ false → endLine accepted phase skipped ≡ (endWord ++ (space ∷ noneWord)) ++ (newline ∷ [])
-unfolding endLine
-end-none phase skipped f = rw f
+pub end_none : {accepted : Bool} (phase skipped : ℕ) → accepted ≡ false → end_line accepted phase skipped ≡ (end_word ++ (space ∷ none_word)) ++ (newline ∷ [])
+unfolding end_line
+end_none phase skipped f = rw f

@@ -3,12 +3,12 @@
 
 ghost use Rattle.std.specs.Prelude.{◌≡◌, map, ◌+◌, ◌*◌, ◌<◌, ◌≤◌, min, length, take};
 ghost use Rattle.std.specs.Int.Count.{ones};
-ghost use Rattle.octets.specs.Decimal.{maxDigits};
+ghost use Rattle.octets.specs.Decimal.{max_digits};
 ghost use Rattle.octets.specs.Writing.{Writes};
 ghost use Rattle.octets.specs.Puts.{Puts};
-ghost use Rattle.events.specs.Events.{maxEvents, eventsIn, pairEvents};
-ghost use Rattle.listing.specs.Lines.{fields, recordLines, endLine, maxLetters, maxFigures, maxRest, maxLine, maxRecord};
-ghost use Rattle.listing.specs.Parts.{Short, rest, partsLine};
+ghost use Rattle.events.specs.Events.{max_events, events_in, pair_events};
+ghost use Rattle.listing.specs.Lines.{fields, record_lines, end_line, max_letters, max_figures, max_rest, max_line, max_record};
+ghost use Rattle.listing.specs.Parts.{Short, rest, parts_line};
 
 use crate::words::Parts;
 use events::{EventPair, Events, Line, MAX_EVENTS};
@@ -30,7 +30,7 @@ pub const ROOM: usize = MAX_EVENTS * MAX_LINE;
 
 // A record's lines at the start of out; where they are longer than out, 27, and out is left as it was. ROOM is always enough.
 pub fn put_events(out: &mut [u8], number: u64, events: Events) -> Written
-    ensures { Writes (recordLines number (eventsIn events)) result out.old out.new × (maxRecord ≤ length out.old → result.refusal ≡ 0) }
+    ensures { Writes (record_lines number (events_in events)) result out.old out.new × (max_record ≤ length out.old → result.refusal ≡ 0) }
 {
     if ROOM <= out.len() {
         let len = put_event_lines(out, number, events);
@@ -41,7 +41,7 @@ pub fn put_events(out: &mut [u8], number: u64, events: Events) -> Written
 
 // The lines of a record with at most two events, likewise.
 pub fn put_pair(out: &mut [u8], number: u64, pair: EventPair) -> Written
-    ensures { Writes (recordLines number (pairEvents pair)) result out.old out.new × (maxRecord ≤ length out.old → result.refusal ≡ 0) }
+    ensures { Writes (record_lines number (pair_events pair)) result out.old out.new × (max_record ≤ length out.old → result.refusal ≡ 0) }
 {
     if ROOM <= out.len() {
         let len = put_pair_lines(out, number, pair);
@@ -52,7 +52,7 @@ pub fn put_pair(out: &mut [u8], number: u64, pair: EventPair) -> Written
 
 // The same by way of a buffer, where out may be shorter than the lines.
 fn put_copied(out: &mut [u8], number: u64, events: Events) -> Written
-    ensures { Writes (recordLines number (eventsIn events)) result out.old out.new }
+    ensures { Writes (record_lines number (events_in events)) result out.old out.new }
 {
     let mut text = [0u8; ROOM];
     let len = put_event_lines(&mut text, number, events);
@@ -61,7 +61,7 @@ fn put_copied(out: &mut [u8], number: u64, events: Events) -> Written
 
 // The last line, likewise.
 pub fn put_end(out: &mut [u8], accepted: bool, phase: u8, skipped: u32) -> Written
-    ensures { Writes (endLine accepted phase skipped) result out.old out.new × (maxRecord ≤ length out.old → result.refusal ≡ 0) }
+    ensures { Writes (end_line accepted phase skipped) result out.old out.new × (max_record ≤ length out.old → result.refusal ≡ 0) }
 {
     if ROOM <= out.len() {
         let len = put_last(out, accepted, phase, skipped);
@@ -72,7 +72,7 @@ pub fn put_end(out: &mut [u8], accepted: bool, phase: u8, skipped: u32) -> Writt
 
 // The same by way of a buffer, where out may be shorter than the line.
 fn put_end_copied(out: &mut [u8], accepted: bool, phase: u8, skipped: u32) -> Written
-    ensures { Writes (endLine accepted phase skipped) result out.old out.new }
+    ensures { Writes (end_line accepted phase skipped) result out.old out.new }
 {
     let mut text = [0u8; ROOM];
     let len = put_last(&mut text, accepted, phase, skipped);
@@ -81,8 +81,8 @@ fn put_end_copied(out: &mut [u8], accepted: bool, phase: u8, skipped: u32) -> Wr
 
 // `none`, or a line for each event.
 fn put_event_lines(out: &mut [u8], number: u64, events: Events) -> usize
-    requires { maxRecord ≤ length out.old }
-    ensures { Puts (recordLines number (eventsIn events)) 0 result out.old out.new × (result ≤ maxRecord) }
+    requires { max_record ≤ length out.old }
+    ensures { Puts (record_lines number (events_in events)) 0 result out.old out.new × (result ≤ max_record) }
 {
     let n = held(events.count);
     if n == 0 {
@@ -94,7 +94,7 @@ fn put_event_lines(out: &mut [u8], number: u64, events: Events) -> usize
 
 // How many events an array with that count holds.
 fn held(count: usize) -> usize
-    ensures { result ≡ min count maxEvents }
+    ensures { result ≡ min count max_events }
 {
     if count < MAX_EVENTS {
         count
@@ -105,8 +105,8 @@ fn held(count: usize) -> usize
 
 // The lines of the first n events, where n is 1 or more.
 fn put_lines(out: &mut [u8], number: u64, lines: [Line; MAX_EVENTS], n: usize) -> usize
-    requires { (0 < n) × (n ≤ maxEvents) × (maxRecord ≤ length out.old) }
-    ensures { Puts (recordLines number (map (λ l. l.event) (take n lines))) 0 result out.old out.new × (result ≤ maxRecord) }
+    requires { (0 < n) × (n ≤ max_events) × (max_record ≤ length out.old) }
+    ensures { Puts (record_lines number (map (λ l. l.event) (take n lines))) 0 result out.old out.new × (result ≤ max_record) }
 {
     let mut k = 0;
     let mut i = 0;
@@ -121,8 +121,8 @@ fn put_lines(out: &mut [u8], number: u64, lines: [Line; MAX_EVENTS], n: usize) -
 
 // `none`, or a line for each of at most two events.
 fn put_pair_lines(out: &mut [u8], number: u64, pair: EventPair) -> usize
-    requires { maxRecord ≤ length out.old }
-    ensures { Puts (recordLines number (pairEvents pair)) 0 result out.old out.new × (result ≤ maxRecord) }
+    requires { max_record ≤ length out.old }
+    ensures { Puts (record_lines number (pair_events pair)) 0 result out.old out.new × (result ≤ max_record) }
 {
     if pair.count == 0 {
         return put_line(out, number, words::bare(words::NONE));
@@ -138,8 +138,8 @@ fn put_pair_lines(out: &mut [u8], number: u64, pair: EventPair) -> usize
 
 // A line in the part after the lines already there, and its length: the record's number, a space, and the rest.
 fn put_line(out: &mut [u8], number: u64, parts: Parts) -> usize
-    requires { Short parts × (maxLine ≤ length out.old) }
-    ensures { Puts (partsLine number parts) 0 result out.old out.new × (result ≤ maxLine) }
+    requires { Short parts × (max_line ≤ length out.old) }
+    ensures { Puts (parts_line number parts) 0 result out.old out.new × (result ≤ max_line) }
 {
     let k = put_dec(out, 0, number);
     out[k] = b' ';
@@ -148,8 +148,8 @@ fn put_line(out: &mut [u8], number: u64, parts: Parts) -> usize
 
 // The rest of a line: a word, figures with a space before each, and a newline.
 fn put_rest(out: &mut [u8], at: usize, parts: Parts) -> usize
-    requires { Short parts × (at + maxRest ≤ length out.old) }
-    ensures { Puts (rest parts) at result out.old out.new × (result ≤ at + maxRest) }
+    requires { Short parts × (at + max_rest ≤ length out.old) }
+    ensures { Puts (rest parts) at result out.old out.new × (result ≤ at + max_rest) }
 {
     let word = parts.word;
     let letters = word.0;
@@ -162,16 +162,16 @@ fn put_rest(out: &mut [u8], at: usize, parts: Parts) -> usize
 
 // The first n letters.
 fn put_word(out: &mut [u8], at: usize, letters: [u8; MAX_LETTERS], n: usize) -> usize
-    requires { (n ≤ maxLetters) × (at + maxLetters ≤ length out.old) }
-    ensures { Puts (take n letters) at result out.old out.new × (result ≤ at + maxLetters) }
+    requires { (n ≤ max_letters) × (at + max_letters ≤ length out.old) }
+    ensures { Puts (take n letters) at result out.old out.new × (result ≤ at + max_letters) }
 {
     put_bytes(out, at, &letters[..n])
 }
 
 // The first n figures, with a space before each.
 fn put_figures(out: &mut [u8], at: usize, nums: [u64; MAX_FIGURES], n: usize) -> usize
-    requires { (n ≤ maxFigures) × (at + maxFigures * (1 + maxDigits) ≤ length out.old) }
-    ensures { Puts (fields (take n nums)) at result out.old out.new × (result ≤ at + maxFigures * (1 + maxDigits)) }
+    requires { (n ≤ max_figures) × (at + max_figures * (1 + max_digits) ≤ length out.old) }
+    ensures { Puts (fields (take n nums)) at result out.old out.new × (result ≤ at + max_figures * (1 + max_digits)) }
 {
     let mut k = at;
     let mut i = 0;
@@ -185,8 +185,8 @@ fn put_figures(out: &mut [u8], at: usize, nums: [u64; MAX_FIGURES], n: usize) ->
 
 // The last line: phase and number of skipped fills, or `none` without an accepted header.
 fn put_last(out: &mut [u8], accepted: bool, phase: u8, skipped: u32) -> usize
-    requires { maxRecord ≤ length out.old }
-    ensures { Puts (endLine accepted phase skipped) 0 result out.old out.new × (result ≤ maxRecord) }
+    requires { max_record ≤ length out.old }
+    ensures { Puts (end_line accepted phase skipped) 0 result out.old out.new × (result ≤ max_record) }
 {
     if accepted {
         return put_rest(

@@ -1,7 +1,7 @@
 // The words of a listing, and the word and the figures of each event's line.
 ghost use Rattle.std.specs.Prelude.{◌≡◌, [], ◌∷◌};
 ghost use Rattle.laws.specs.Sums.{only};
-ghost use Rattle.listing.specs.Parts.{parts, printParts, partsOf};
+ghost use Rattle.listing.specs.Parts.{parts, print_parts, parts_of};
 
 use crate::{MAX_FIGURES, MAX_LETTERS};
 use events::{Event, Print};
@@ -50,7 +50,7 @@ pub struct Parts {
 
 // The word and the figures of an event's line.
 pub fn parts_of(e: Event) -> Parts
-    ensures { result ≡ partsOf e }
+    ensures { result ≡ parts_of e }
 {
     match e {
         Event::Nothing => bare(NONE),
@@ -138,7 +138,7 @@ fn four(word: Word, a: u64, b: u64, c: u64, d: u64) -> Parts
 
 // A print's line.
 fn print_parts(p: Print) -> Parts
-    ensures { result ≡ printParts p }
+    ensures { result ≡ print_parts p }
 {
     Parts {
         word: PRINT,

@@ -8,47 +8,47 @@ use Prim.Native.Nat.{ℕ, zero, suc, ◌+◌, ◌*◌, ◌/◌, ◌%◌, ◌^◌
 use native.Mathlib.Omega.{arith}
 use borrow.Author.Tests.{lt-ltb, le-ltb}
 use lib.ListN.{length, set, length-append}
-use Rattle.laws.proofs.Tests.{lt-or-le}
-use Rattle.octets.specs.Decimal.{digits, decimal, maxDigits}
+use Rattle.laws.proofs.Tests.{lt_or_le}
+use Rattle.octets.specs.Decimal.{digits, decimal, max_digits}
 use Rattle.octets.specs.Puts.{Puts}
-use Rattle.octets.proofs.Spliced.{puts-byte}
+use Rattle.octets.proofs.Spliced.{puts_byte}
 
 -- more room for digits changes nothing
-digits-enough : (k m x : ℕ) → x < k → x < m → digits k x ≡ digits m x
+digits_enough : (k m x : ℕ) → x < k → x < m → digits k x ≡ digits m x
 unfolding digits
-digits-enough zero m x hk hm = absurd (omega arith)
-digits-enough (suc k) zero x hk hm = absurd (omega arith)
-digits-enough (suc k) (suc m) x hk hm =
+digits_enough zero m x hk hm = absurd (omega arith)
+digits_enough (suc k) zero x hk hm = absurd (omega arith)
+digits_enough (suc k) (suc m) x hk hm =
     ⊎_elim (λ (h : x < 10). rw (lt-ltb x 10 h))
-    (λ (h : 10 ≤ x). rw (le-ltb x 10 h, digits-enough k m (x / 10) (omega arith) (omega arith)))
-    (lt-or-le x 10)
+    (λ (h : 10 ≤ x). rw (le-ltb x 10 h, digits_enough k m (x / 10) (omega arith) (omega arith)))
+    (lt_or_le x 10)
 
 -- of one digit, and of more
-decimal-one : (x : ℕ) → x < 10 → decimal x ≡ (48 + x % 10) ∷ []
+decimal_one : (x : ℕ) → x < 10 → decimal x ≡ (48 + x % 10) ∷ []
 unfolding decimal digits
-decimal-one x h = rw (lt-ltb x 10 h)
+decimal_one x h = rw (lt-ltb x 10 h)
 
-decimal-more : (x : ℕ) → 10 ≤ x → decimal x ≡ decimal (x / 10) ++ ((48 + x % 10) ∷ [])
+decimal_more : (x : ℕ) → 10 ≤ x → decimal x ≡ decimal (x / 10) ++ ((48 + x % 10) ∷ [])
 unfolding decimal digits
-decimal-more x h = rw (le-ltb x 10 h) (ap (λ (l : List ℕ). l ++ ((48 + x % 10) ∷ [])) (digits-enough x (suc (x / 10)) (x / 10) (omega arith) (omega arith)))
+decimal_more x h = rw (le-ltb x 10 h) (ap (λ (l : List ℕ). l ++ ((48 + x % 10) ∷ [])) (digits_enough x (suc (x / 10)) (x / 10) (omega arith) (omega arith)))
 
 -- the last two digits, alone and after those of the hundredth
-abbrev lastTwo : ℕ → List ℕ
-lastTwo x = (48 + x / 10 % 10) ∷ (48 + x % 10) ∷ []
+abbrev last_two : ℕ → List ℕ
+last_two x = (48 + x / 10 % 10) ∷ (48 + x % 10) ∷ []
 
-pub decimal-two : (x : ℕ) → 10 ≤ x → x < 100 → decimal x ≡ lastTwo x
-decimal-two x h small = rw (decimal-more x h, decimal-one (x / 10) (omega arith))
+pub decimal_two : (x : ℕ) → 10 ≤ x → x < 100 → decimal x ≡ last_two x
+decimal_two x h small = rw (decimal_more x h, decimal_one (x / 10) (omega arith))
 
-pub decimal-hundreds : (x : ℕ) → 100 ≤ x → decimal x ≡ decimal (x / 100) ++ lastTwo x
-decimal-hundreds x h =
+pub decimal_hundreds : (x : ℕ) → 100 ≤ x → decimal x ≡ decimal (x / 100) ++ last_two x
+decimal_hundreds x h =
     let e : x / 10 / 10 ≡ x / 100 = omega arith in
-    rw (decimal-more x (omega arith), decimal-more (x / 10) (omega arith), e, append_assoc)
+    rw (decimal_more x (omega arith), decimal_more (x / 10) (omega arith), e, append_assoc)
 
-pub length-one : (x : ℕ) → x < 10 → length (decimal x) ≡ 1
-length-one x h = rw (decimal-one x h)
+pub length_one : (x : ℕ) → x < 10 → length (decimal x) ≡ 1
+length_one x h = rw (decimal_one x h)
 
-length-more : (x : ℕ) → 10 ≤ x → length (decimal x) ≡ length (decimal (x / 10)) + 1
-length-more x h = rw (decimal-more x h, length-append)
+length_more : (x : ℕ) → 10 ≤ x → length (decimal x) ≡ length (decimal (x / 10)) + 1
+length_more x h = rw (decimal_more x h, length-append)
 
 -- 10, 100, 1000, ..
 abbrev tens : ℕ → ℕ
@@ -56,22 +56,22 @@ tens zero = 10
 tens (suc k) = 10 * tens k
 
 -- a number below 10 to the k + 1 has at most k + 1 digits, so one of 64 bits at most 20
-few-digits : (k x : ℕ) → x < tens k → length (decimal x) ≤ suc k
-few-digits zero x h = omega (arith, length-one x h)
-few-digits (suc k) x h =
-    ⊎_elim (λ (g : x < 10). omega (arith, length-one x g))
-    (λ (g : 10 ≤ x). omega (arith, length-more x g, few-digits k (x / 10) (omega arith)))
-    (lt-or-le x 10)
+few_digits : (k x : ℕ) → x < tens k → length (decimal x) ≤ suc k
+few_digits zero x h = omega (arith, length_one x h)
+few_digits (suc k) x h =
+    ⊎_elim (λ (g : x < 10). omega (arith, length_one x g))
+    (λ (g : 10 ≤ x). omega (arith, length_more x g, few_digits k (x / 10) (omega arith)))
+    (lt_or_le x 10)
 
-pub most-digits : (x : ℕ) → x < 2 ^ 64 → length (decimal x) ≤ maxDigits
-most-digits x h = few-digits 19 x (omega arith)
+pub most_digits : (x : ℕ) → x < 2 ^ 64 → length (decimal x) ≤ max_digits
+most_digits x h = few_digits 19 x (omega arith)
 
 -- a hundredth of such a number has two fewer
-pub hundredth-digits : (x : ℕ) → 100 ≤ x → x < 2 ^ 64 → length (decimal (x / 100)) + 2 ≤ maxDigits
-hundredth-digits x h fits =
-    let e : length (decimal x) ≡ length (decimal (x / 100)) + 2 = rw (decimal-hundreds x h, length-append) in
-    omega (arith, most-digits x fits)
+pub hundredth_digits : (x : ℕ) → 100 ≤ x → x < 2 ^ 64 → length (decimal (x / 100)) + 2 ≤ max_digits
+hundredth_digits x h fits =
+    let e : length (decimal x) ≡ length (decimal (x / 100)) + 2 = rw (decimal_hundreds x h, length-append) in
+    omega (arith, most_digits x fits)
 
 -- the only digit of a number
-pub puts-digit : (x d at : ℕ) (e : List ℕ) → x < 10 → d ≡ 48 + x % 10 → at < length e → Puts (decimal x) at (at + 1) e (set e at d)
-puts-digit x d at e h is fits = rw (decimal-one x h, ← is) (puts-byte at d e fits)
+pub puts_digit : (x d at : ℕ) (e : List ℕ) → x < 10 → d ≡ 48 + x % 10 → at < length e → Puts (decimal x) at (at + 1) e (set e at d)
+puts_digit x d at e h is fits = rw (decimal_one x h, ← is) (puts_byte at d e fits)

@@ -8,16 +8,16 @@ word zero s at = 0
 word (suc k) s at = get_or s at 0 + 256 * word k s (at + 1)
 
 -- k bytes at a place; past the end they are 0
-abbrev pub bytesAt : (k : ℕ) → List ℕ → (at : ℕ) → List ℕ
-bytesAt k s at = table (λ i. get_or s (at + i) 0) k
+abbrev pub bytes_at : (k : ℕ) → List ℕ → (at : ℕ) → List ℕ
+bytes_at k s at = table (λ i. get_or s (at + i) 0) k
 
 -- 'times and `rofr_window` are signed': two's complement of 64 bits
 unfoldable pub signed : ℕ → ℤ
 signed n = cond (ltb n (2 ^ 63)) (pos n) (negsuc (2 ^ 64 - 1 - n))
 
-abbrev pub timeAt : List ℕ → (at : ℕ) → ℤ
-timeAt s at = signed (word 8 s at)
+abbrev pub time_at : List ℕ → (at : ℕ) → ℤ
+time_at s at = signed (word 8 s at)
 
 -- a flag, 0 or 1
-abbrev pub flagAt : List ℕ → (at : ℕ) → Bool
-flagAt s at = eqb (word 1 s at) 1
+abbrev pub flag_at : List ℕ → (at : ℕ) → Bool
+flag_at s at = eqb (word 1 s at) 1

@@ -11,5 +11,5 @@ unfoldable pub decimal : ℕ → List ℕ
 decimal x = digits (suc x) x
 
 -- the most digits of a 64-bit number
-abbrev pub maxDigits : ℕ
-maxDigits = 20
+abbrev pub max_digits : ℕ
+max_digits = 20

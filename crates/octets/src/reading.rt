@@ -1,6 +1,6 @@
 // Little-endian fields of a record. Bytes past the end are read as 0, so nothing is asked of the caller.
 ghost use Rattle.std.specs.Prelude.{◌≡◌, ℕ, ◌+◌, ◌*◌, ◌^◌, ◌<◌, ◌≤◌, length, get_or};
-ghost use Rattle.octets.specs.Bytes.{word, bytesAt, signed, timeAt, flagAt};
+ghost use Rattle.octets.specs.Bytes.{word, bytes_at, signed, time_at, flag_at};
 
 pub fn u8_at(rec: &[u8], at: usize) -> u8
     ensures { result ≡ word 1 rec.now at }
@@ -82,7 +82,7 @@ fn wide(x: u8) -> u64
 
 // Eight bytes as a signed number, in two's complement.
 pub fn time_at(rec: &[u8], at: usize) -> i64
-    ensures { result ≡ timeAt rec.now at }
+    ensures { result ≡ time_at rec.now at }
 {
     signed_of(u64_at(rec, at))
 }
@@ -98,14 +98,14 @@ fn signed_of(x: u64) -> i64
 }
 
 pub fn flag_at(rec: &[u8], at: usize) -> bool
-    ensures { result ≡ flagAt rec.now at }
+    ensures { result ≡ flag_at rec.now at }
 {
     u8_at(rec, at) == 1
 }
 
 // A wallet.
 pub fn key_at(rec: &[u8], at: usize) -> [u8; 32]
-    ensures { result ≡ bytesAt 32 rec.now at }
+    ensures { result ≡ bytes_at 32 rec.now at }
 {
     let mut key = [0u8; 32];
     let mut i = 0;
@@ -118,7 +118,7 @@ pub fn key_at(rec: &[u8], at: usize) -> [u8; 32]
 
 // An investor id.
 pub fn id_at(rec: &[u8], at: usize) -> [u8; 16]
-    ensures { result ≡ bytesAt 16 rec.now at }
+    ensures { result ≡ bytes_at 16 rec.now at }
 {
     let mut id = [0u8; 16];
     let mut i = 0;

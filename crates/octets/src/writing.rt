@@ -1,7 +1,7 @@
 // Texts and numbers in base ten, written into bytes that are lent. Where one does not fit, the bytes are left as they were, so nothing is asked of
 // the caller.
 ghost use Rattle.std.specs.Prelude.{◌≡◌, cond, [], ◌∷◌, ◌+◌, ◌/◌, ◌%◌, ◌<◌, ◌≤◌, leb, length};
-ghost use Rattle.octets.specs.Decimal.{decimal, maxDigits};
+ghost use Rattle.octets.specs.Decimal.{decimal, max_digits};
 ghost use Rattle.octets.specs.Writing.{Writes, PutAt};
 ghost use Rattle.octets.specs.Puts.{Puts};
 
@@ -62,7 +62,7 @@ fn copy_bytes(out: &mut [u8], at: usize, bytes: &[u8]) -> usize
 
 // x in base ten, likewise; MAX_DIGITS bytes are always enough. Where there are fewer it goes by way of a buffer.
 pub fn put_dec(out: &mut [u8], at: usize, x: u64) -> usize
-    ensures { PutAt (decimal x) at result out.old out.new × (length (decimal x) ≤ maxDigits) }
+    ensures { PutAt (decimal x) at result out.old out.new × (length (decimal x) ≤ max_digits) }
 {
     if x < 10 {
         return put_digit(out, at, x);
@@ -89,8 +89,8 @@ fn put_digit(out: &mut [u8], at: usize, x: u64) -> usize
 
 // The digits of x, where any number fits: the last two after those of its hundredth.
 fn put_digits(out: &mut [u8], at: usize, x: u64) -> usize
-    requires { at + maxDigits ≤ length out.old }
-    ensures { Puts (decimal x) at result out.old out.new × (result ≤ at + maxDigits) }
+    requires { at + max_digits ≤ length out.old }
+    ensures { Puts (decimal x) at result out.old out.new × (result ≤ at + max_digits) }
 {
     if x < 10 {
         out[at] = digit(x);

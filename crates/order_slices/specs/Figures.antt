@@ -4,7 +4,7 @@ use Rattle.credit_math.specs.Price.{Found, refused, failed, cross}
 use Rattle.order_slices.specs.declared.Figures.{Figures}
 
 -- a refusal with its number; no price, which has the one reason NoCross; or a cross with its price and the two words of its volume. What is not said is 0.
-abbrev pub figuresOf : Found → Figures
-figuresOf (refused number) = record { refusal = number; crosses = false; price = 0; volume_hi = 0; volume_lo = 0 }
-figuresOf (failed reason) = record { refusal = 0; crosses = false; price = 0; volume_hi = 0; volume_lo = 0 }
-figuresOf (cross p v) = record { refusal = 0; crosses = true; price = p; volume_hi = v / 2 ^ 64; volume_lo = v % 2 ^ 64 }
+abbrev pub figures_of : Found → Figures
+figures_of (refused number) = record { refusal = number; crosses = false; price = 0; volume_hi = 0; volume_lo = 0 }
+figures_of (failed reason) = record { refusal = 0; crosses = false; price = 0; volume_hi = 0; volume_lo = 0 }
+figures_of (cross p v) = record { refusal = 0; crosses = true; price = p; volume_hi = v / 2 ^ 64; volume_lo = v % 2 ^ 64 }

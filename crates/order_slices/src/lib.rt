@@ -3,12 +3,12 @@
 
 ghost use Rattle.std.specs.Prelude.{◌≡◌, false, ◌<◌, ◌≤◌, length, take};
 ghost use Rattle.wide.specs.Value.{digits};
-ghost use Rattle.credit_math.specs.Limits.{maxOrders};
-ghost use Rattle.credit_math.specs.Price.{found, cross, findUniformClearPrice};
-ghost use Rattle.credit_math.specs.ProRata.{proRataRefusal, allocateProRata};
-ghost use Rattle.order_slices.specs.Figures.{figuresOf};
-ghost use Rattle.order_slices.specs.Slices.{searchOrders, bidsRefusal, allocateBids};
-ghost use Rattle.order_slices.specs.Entries.{noEntries, orderAt, bidAt, keptOf, searchEntries, entriesRefusal, allocateEntries};
+ghost use Rattle.credit_math.specs.Limits.{max_orders};
+ghost use Rattle.credit_math.specs.Price.{found, cross, find_uniform_clear_price};
+ghost use Rattle.credit_math.specs.ProRata.{pro_rata_refusal, allocate_pro_rata};
+ghost use Rattle.order_slices.specs.Figures.{figures_of};
+ghost use Rattle.order_slices.specs.Slices.{search_orders, bids_refusal, allocate_bids};
+ghost use Rattle.order_slices.specs.Entries.{no_entries, order_at, bid_at, kept_of, search_entries, entries_refusal, allocate_entries};
 
 use credit_math::allocation::Clearing;
 use credit_math::{MAX_ORDERS, allocation};
@@ -49,7 +49,7 @@ pub extern "C" fn find_uniform_clear_price(
     reserve: u64,
     reference: u64,
 ) -> Figures
-    ensures { result ≡ figuresOf (searchOrders orders.now reserve reference) }
+    ensures { result ≡ figures_of (search_orders orders.now reserve reference) }
 {
     let n = kept(orders.len());
     let mut copy = none();
@@ -64,8 +64,8 @@ pub extern "C" fn find_uniform_clear_price(
 // Lots of a total over at most 16 bids: 0, or the number of a refusal, which leaves the output as it was.
 #[unsafe(no_mangle)]
 pub extern "C" fn allocate_pro_rata(total: u64, bids: &[Bid], out: &mut [u64]) -> u8
-    ensures { (result ≡ bidsRefusal bids.now (length out.old) total)
-        × (out.new ≡ allocateBids bids.now total out.old) }
+    ensures { (result ≡ bids_refusal bids.now (length out.old) total)
+        × (out.new ≡ allocate_bids bids.now total out.old) }
 {
     let n = kept(bids.len());
     let mut copy = none();
@@ -87,7 +87,7 @@ struct Entries {
 }
 
 fn none() -> Entries
-    ensures { result ≡ noEntries }
+    ensures { result ≡ no_entries }
 {
     Entries {
         is_buy: [false; MAX_ORDERS],
@@ -99,14 +99,14 @@ fn none() -> Entries
 
 // How many entries are copied: all, or none where the core refuses them.
 fn kept(n: usize) -> usize
-    ensures { result ≡ keptOf n }
+    ensures { result ≡ kept_of n }
 {
     if n <= MAX_ORDERS { n } else { 0 }
 }
 
 fn with_order(copy: Entries, i: usize, o: Order) -> Entries
-    requires { i < maxOrders }
-    ensures { result ≡ orderAt copy i o }
+    requires { i < max_orders }
+    ensures { result ≡ order_at copy i o }
 {
     let mut next = copy;
     next.is_buy[i] = o.is_buy;
@@ -117,8 +117,8 @@ fn with_order(copy: Entries, i: usize, o: Order) -> Entries
 }
 
 fn with_bid(copy: Entries, i: usize, b: Bid) -> Entries
-    requires { i < maxOrders }
-    ensures { result ≡ bidAt copy i b }
+    requires { i < max_orders }
+    ensures { result ≡ bid_at copy i b }
 {
     let mut next = copy;
     next.ids[i] = b.id;
@@ -128,7 +128,7 @@ fn with_bid(copy: Entries, i: usize, b: Bid) -> Entries
 
 // The price search on the first n entries.
 fn search(copy: Entries, n: usize, reserve: u64, reference: u64) -> Figures
-    ensures { result ≡ figuresOf (searchEntries copy n reserve reference) }
+    ensures { result ≡ figures_of (search_entries copy n reserve reference) }
 {
     if MAX_ORDERS < n {
         return no_price(refusals::BAD_LENGTH);
@@ -148,8 +148,8 @@ fn search_first(
     reserve: u64,
     reference: u64,
 ) -> Figures
-    requires { n ≤ maxOrders }
-    ensures { result ≡ figuresOf (findUniformClearPrice (take n is_buy) (take n limits) (take n qtys) reserve reference) }
+    requires { n ≤ max_orders }
+    ensures { result ≡ figures_of (find_uniform_clear_price (take n is_buy) (take n limits) (take n qtys) reserve reference) }
 {
     let answer = allocation::find_uniform_clear_price(
         &is_buy[..n],
@@ -163,8 +163,8 @@ fn search_first(
 
 // Pro-rata on the first n entries.
 fn allot(total: u64, copy: Entries, n: usize, out: &mut [u64]) -> u8
-    ensures { (result ≡ entriesRefusal copy n (length out.old) total)
-        × (out.new ≡ allocateEntries copy n total out.old) }
+    ensures { (result ≡ entries_refusal copy n (length out.old) total)
+        × (out.new ≡ allocate_entries copy n total out.old) }
 {
     if MAX_ORDERS < n {
         return refusals::BAD_LENGTH;
@@ -182,16 +182,16 @@ fn allot_first(
     n: usize,
     out: &mut [u64],
 ) -> u8
-    requires { n ≤ maxOrders }
-    ensures { (result ≡ proRataRefusal (take n ids) (take n qtys) (length out.old) total)
-        × (out.new ≡ allocateProRata (take n ids) (take n qtys) total out.old) }
+    requires { n ≤ max_orders }
+    ensures { (result ≡ pro_rata_refusal (take n ids) (take n qtys) (length out.old) total)
+        × (out.new ≡ allocate_pro_rata (take n ids) (take n qtys) total out.old) }
 {
     allocation::allocate_pro_rata(total, &ids[..n], &qtys[..n], out)
 }
 
 // The answer as plain numbers, for a host.
 pub fn figures_of(answer: Clearing) -> Figures
-    ensures { result ≡ figuresOf (found answer) }
+    ensures { result ≡ figures_of (found answer) }
 {
     match answer {
         Clearing::Refused(number) => no_price(number),
@@ -201,7 +201,7 @@ pub fn figures_of(answer: Clearing) -> Figures
 }
 
 fn priced(price: u64, volume_hi: u64, volume_lo: u64) -> Figures
-    ensures { result ≡ figuresOf (cross price (digits 64 volume_hi volume_lo)) }
+    ensures { result ≡ figures_of (cross price (digits 64 volume_hi volume_lo)) }
 {
     Figures {
         refusal: 0,

@@ -9,17 +9,17 @@ use Rattle.price_by_order.specs.declared.Kept.{Kept}
 use Rattle.price_by_order.specs.declared.Kept.TheVariants.{Nothing, Found}
 
 -- what an order adds to a side's total at p
-unfoldable pub added : (buys isBuy : Bool) (limit qty p : ℕ) → ℕ
-added buys isBuy limit qty p = cond buys (only (isBuy && leb p limit) qty) (only (not isBuy && leb limit p) qty)
+unfoldable pub added : (buys is_buy : Bool) (limit qty p : ℕ) → ℕ
+added buys is_buy limit qty p = cond buys (only (is_buy && leb p limit) qty) (only (not is_buy && leb limit p) qty)
 
 -- the total of a side at p
-abbrev pub sideTotal : List Bool → List ℕ → List ℕ → (buys : Bool) (p : ℕ) → ℕ
-sideTotal isBuy limits qtys buys p = cond buys (buy isBuy limits qtys p) (sell isBuy limits qtys p)
+abbrev pub side_total : List Bool → List ℕ → List ℕ → (buys : Bool) (p : ℕ) → ℕ
+side_total is_buy limits qtys buys p = cond buys (buy is_buy limits qtys p) (sell is_buy limits qtys p)
 
 -- a quote holds its price's figures
-pub record Quoted (isBuy : List Bool) (limits qtys : List ℕ) (q : Quote) : Type 0 where
-  pub volume : value q.executed ≡ executed isBuy limits qtys q.price
-  pub gap : value q.imbalance ≡ imbalance isBuy limits qtys q.price
+pub record Quoted (is_buy : List Bool) (limits qtys : List ℕ) (q : Quote) : Type 0 where
+  pub volume : value q.executed ≡ executed is_buy limits qtys q.price
+  pub gap : value q.imbalance ≡ imbalance is_buy limits qtys q.price
 
 -- the price kept
 abbrev pub best : Kept → Best
@@ -27,8 +27,8 @@ best Nothing = none
 best (Found q) = at q.price
 
 abbrev pub AllQuoted : List Bool → List ℕ → List ℕ → Kept → Type 0
-AllQuoted isBuy limits qtys Nothing = Unit
-AllQuoted isBuy limits qtys (Found q) = Quoted isBuy limits qtys q
+AllQuoted is_buy limits qtys Nothing = Unit
+AllQuoted is_buy limits qtys (Found q) = Quoted is_buy limits qtys q
 
 -- one quote is better than another, by their figures
 unfoldable pub ahead : (a b : Quote) (reference : ℕ) → Bool
@@ -45,6 +45,6 @@ unfoldable pub after : Kept → Quote → (reserve reference : ℕ) → Kept
 after k q reserve reference = cond (leb reserve q.price) (cond (ltb 0 (value q.executed)) (chosen k q reference) k) k
 
 -- the best limit, going through the orders in their own sequence
-unfoldable pub byOrder : List Bool → List ℕ → List ℕ → (reserve reference : ℕ) → Best
-byOrder isBuy limits qtys reserve reference =
-    walk (λ p. leb reserve p && executes isBuy limits qtys p) (better isBuy limits qtys reference) none limits
+unfoldable pub by_order : List Bool → List ℕ → List ℕ → (reserve reference : ℕ) → Best
+by_order is_buy limits qtys reserve reference =
+    walk (λ p. leb reserve p && executes is_buy limits qtys p) (better is_buy limits qtys reference) none limits

@@ -4,10 +4,10 @@
 ghost use Rattle.std.specs.Prelude.{◌≡◌, ◌&&◌, ltb, leb};
 ghost use Rattle.laws.specs.Lex.{lex};
 ghost use Rattle.wide.specs.Value.{value, apart};
-ghost use Rattle.credit_math.specs.Price.{found, findUniformClearPrice, executes, better, step};
+ghost use Rattle.credit_math.specs.Price.{found, find_uniform_clear_price, executes, better, step};
 ghost use Rattle.credit_math.specs.Steps.{Book};
-ghost use Rattle.order_slices.specs.Figures.{figuresOf};
-ghost use Rattle.price_by_order.specs.Steps.{added, sideTotal, Quoted, AllQuoted, best, ahead, after, byOrder};
+ghost use Rattle.order_slices.specs.Figures.{figures_of};
+ghost use Rattle.price_by_order.specs.Steps.{added, side_total, Quoted, AllQuoted, best, ahead, after, by_order};
 
 use credit_math::allocation::{ClearResult, Clearing};
 use order_slices::Figures;
@@ -22,7 +22,7 @@ pub extern "C" fn entry_price_by_order(
     reserve: u64,
     reference: u64,
 ) -> Figures
-    ensures { result ≡ figuresOf (findUniformClearPrice is_buy.now limits.now qtys.now reserve reference) }
+    ensures { result ≡ figures_of (find_uniform_clear_price is_buy.now limits.now qtys.now reserve reference) }
 {
     let answer = find_uniform_clear_price(is_buy, limits, qtys, reserve, reference);
     order_slices::figures_of(answer)
@@ -37,7 +37,7 @@ pub extern "C" fn entry_price_by_table(
     reserve: u64,
     reference: u64,
 ) -> Figures
-    ensures { result ≡ figuresOf (findUniformClearPrice is_buy.now limits.now qtys.now reserve reference) }
+    ensures { result ≡ figures_of (find_uniform_clear_price is_buy.now limits.now qtys.now reserve reference) }
 {
     let answer = credit_math::allocation::find_uniform_clear_price(
         is_buy, limits, qtys, reserve, reference,
@@ -53,7 +53,7 @@ pub fn find_uniform_clear_price(
     reserve: u64,
     reference: u64,
 ) -> Clearing
-    ensures { found result ≡ findUniformClearPrice is_buy.now limits.now qtys.now reserve reference }
+    ensures { found result ≡ find_uniform_clear_price is_buy.now limits.now qtys.now reserve reference }
 {
     if credit_math::MAX_ORDERS < is_buy.len() {
         return Clearing::Refused(refusals::BAD_LENGTH);
@@ -95,7 +95,7 @@ enum Kept {
 // Each order's limit in turn, with the best so far.
 fn search(is_buy: &[bool], limits: &[u64], qtys: &[u64], reserve: u64, reference: u64) -> Kept
     requires { Book is_buy.now limits.now qtys.now }
-    ensures { (best result ≡ byOrder is_buy.now limits.now qtys.now reserve reference)
+    ensures { (best result ≡ by_order is_buy.now limits.now qtys.now reserve reference)
         × AllQuoted is_buy.now limits.now qtys.now result }
 {
     let mut kept = Kept::Nothing;
@@ -208,7 +208,7 @@ fn quote_at(is_buy: &[bool], limits: &[u64], qtys: &[u64], p: u64) -> Quote
 // The total of a side at p.
 fn side_total(buys: bool, is_buy: &[bool], limits: &[u64], qtys: &[u64], p: u64) -> Wide
     requires { Book is_buy.now limits.now qtys.now }
-    ensures { value result ≡ sideTotal is_buy.now limits.now qtys.now buys p }
+    ensures { value result ≡ side_total is_buy.now limits.now qtys.now buys p }
 {
     let mut sum = wide::of_word(0);
     let mut i = 0;

@@ -5,54 +5,54 @@ use mir.Facts.{to_z_pos}
 use borrow.Author.Tests.{lt-leb}
 use Rattle.octets.specs.declared.writing.Written.{Written}
 use Rattle.octets.specs.Writing.{written}
-use Rattle.session_file.specs.File.{maxInput, listing}
-use Rattle.session_file.specs.Entry.{entryAnswer, entryOutput, Entered, listAnswer, Listed}
+use Rattle.session_file.specs.File.{max_input, listing}
+use Rattle.session_file.specs.Entry.{entry_answer, entry_output, Entered, list_answer, Listed}
 use Rattle.session_file.specs.Steps.{Ran}
 
 -- ---- the file function: an input above the limit, a listing that does not fit, and one that does
-pub listed-big : (s e e' : List ℕ) → maxInput < length s → e' ≡ replicate (length e) 0 → Listed s (record { refusal = 26; len = 0 }) e e'
-unfolding listAnswer entryOutput
-listed-big s e e' h zeros = record { answer = rw (lt-leb (length s) maxInput h); output = rw (lt-leb (length s) maxInput h) zeros }
+pub listed_big : (s e e' : List ℕ) → max_input < length s → e' ≡ replicate (length e) 0 → Listed s (record { refusal = 26; len = 0 }) e e'
+unfolding list_answer entry_output
+listed_big s e e' h zeros = record { answer = rw (lt-leb (length s) max_input h); output = rw (lt-leb (length s) max_input h) zeros }
 
-module _ (s : List ℕ) {e e₁ : List ℕ} {w : Written} (h : length s ≤ maxInput) (ran : Ran s w e e₁) where
-  answer-is : w ≡ listAnswer s e
-  unfolding listAnswer written
-  answer-is = rw (le-leb (length s) maxInput h) ran.answer
+module _ (s : List ℕ) {e e₁ : List ℕ} {w : Written} (h : length s ≤ max_input) (ran : Ran s w e e₁) where
+  answer_is : w ≡ list_answer s e
+  unfolding list_answer written
+  answer_is = rw (le-leb (length s) max_input h) ran.answer
 
-  too-long : w.refusal ≢ 0 → leb (length (listing s)) (length e) ≡ false
+  too_long : w.refusal ≢ 0 → leb (length (listing s)) (length e) ≡ false
   unfolding written
-  too-long z = go (leb (length (listing s)) (length e)) ran.answer
+  too_long z = go (leb (length (listing s)) (length e)) ran.answer
     where
       go : (t : Bool) → w ≡ cond t (record { refusal = 0; len = length (listing s) }) (record { refusal = 27; len = 0 }) → t ≡ false
       go true a = absurd (z (ap (λ (x : Written). x.refusal) a))
       go false a = refl
 
-  fits-in : w.refusal ≡ 0 → leb (length (listing s)) (length e) ≡ true
+  fits_in : w.refusal ≡ 0 → leb (length (listing s)) (length e) ≡ true
   unfolding written
-  fits-in z = go (leb (length (listing s)) (length e)) ran.answer
+  fits_in z = go (leb (length (listing s)) (length e)) ran.answer
     where
       go : (t : Bool) → w ≡ cond t (record { refusal = 0; len = length (listing s) }) (record { refusal = 27; len = 0 }) → t ≡ true
       go true a = refl
       go false a = absurd (let g : 27 ≡ 0 = sym (ap (λ (x : Written). x.refusal) a) ∙ z in omega arith)
 
-  pub listed-long : w.refusal ≢ 0 → (e' : List ℕ) → e' ≡ replicate (length e₁) 0 → Listed s w e e'
-  unfolding entryOutput
-  listed-long z e' zeros = record { answer = answer-is; output = rw (le-leb (length s) maxInput h, too-long z, ← ran.same-length) zeros }
+  pub listed_long : w.refusal ≢ 0 → (e' : List ℕ) → e' ≡ replicate (length e₁) 0 → Listed s w e e'
+  unfolding entry_output
+  listed_long z e' zeros = record { answer = answer_is; output = rw (le-leb (length s) max_input h, too_long z, ← ran.same_length) zeros }
 
-  pub listed-fits : w.refusal ≡ 0 → Listed s w e e₁
-  unfolding entryOutput
-  listed-fits z = record {
-    answer = answer-is;
-    output = rw (le-leb (length s) maxInput h, fits-in z) (ran.bytes (leb-true (length (listing s)) (length e) (fits-in z)));
+  pub listed_fits : w.refusal ≡ 0 → Listed s w e e₁
+  unfolding entry_output
+  listed_fits z = record {
+    answer = answer_is;
+    output = rw (le-leb (length s) max_input h, fits_in z) (ran.bytes (leb-true (length (listing s)) (length e) (fits_in z)));
   }
 
 -- ---- the C entry says the same in one number
 abbrev answers : (len : ℕ) (small fits : Bool) → Written
 answers len small fits = cond small (cond fits (record { refusal = 0; len = len }) (record { refusal = 27; len = 0 })) (record { refusal = 26; len = 0 })
 
-entry-says : (s e : List ℕ) → entryAnswer s e ≡ cond (eqb (listAnswer s e).refusal 0) (pos (listAnswer s e).len) (negsuc ((listAnswer s e).refusal - 1))
-unfolding entryAnswer listAnswer
-entry-says s e = go (leb (length s) maxInput) (leb (length (listing s)) (length e))
+entry_says : (s e : List ℕ) → entry_answer s e ≡ cond (eqb (list_answer s e).refusal 0) (pos (list_answer s e).len) (negsuc ((list_answer s e).refusal - 1))
+unfolding entry_answer list_answer
+entry_says s e = go (leb (length s) max_input) (leb (length (listing s)) (length e))
   where
     go : (small fits : Bool)
         → cond small (cond fits (pos (length (listing s))) (negsuc 26)) (negsuc 25)
@@ -63,9 +63,9 @@ entry-says s e = go (leb (length s) maxInput) (leb (length (listing s)) (length 
     go true false = refl
     go false fits = refl
 
-len-small : (s e : List ℕ) → (listAnswer s e).len ≤ length e
-unfolding listAnswer
-len-small s e = go (leb (length s) maxInput) (leb (length (listing s)) (length e)) refl
+len_small : (s e : List ℕ) → (list_answer s e).len ≤ length e
+unfolding list_answer
+len_small s e = go (leb (length s) max_input) (leb (length (listing s)) (length e)) refl
   where
     go : (small fits : Bool) → leb (length (listing s)) (length e) ≡ fits
         → (answers (length (listing s)) small fits).len ≤ length e
@@ -78,23 +78,23 @@ minus : (n : ℕ) → n < 256 → n ≢ 0 → pos 0 -ℤ to_z w64 n ≡ negsuc (
 minus zero h z = absurd (z refl)
 minus (suc n) h z = rw (to_z_pos w64 {n = suc n} (omega arith), lt-ltb 0 (suc n) (omega arith))
 
-minus-fits : (n : ℕ) → n < 256 → SFits w64 (pos 0 -ℤ to_z w64 n)
-minus-fits zero h = record { sfits = omega arith }
-minus-fits (suc n) h = rw (minus (suc n) h (omega arith)) (record { sfits = omega arith })
+minus_fits : (n : ℕ) → n < 256 → SFits w64 (pos 0 -ℤ to_z w64 n)
+minus_fits zero h = record { sfits = omega arith }
+minus_fits (suc n) h = rw (minus (suc n) h (omega arith)) (record { sfits = omega arith })
 
 module _ {s e e' : List ℕ} {w : Written} (listed : Listed s w e e') where
   -- the length that is answered
-  pub len-within : w.len ≤ length e
-  len-within = rw listed.answer (len-small s e)
+  pub len_within : w.len ≤ length e
+  len_within = rw listed.answer (len_small s e)
 
-  pub entered-refused : w.refusal < 256 → w.refusal ≢ 0 → Entered s (to_z w64 (of_z w64 (pos 0 -ℤ to_z w64 w.refusal))) e e'
-  entered-refused small z = record {
-    answer = rw (to_z-of_z (minus-fits w.refusal small), minus w.refusal small z) (sym (entry-says s e ∙ rw (← listed.answer, ne_eqb w.refusal 0 z)));
+  pub entered_refused : w.refusal < 256 → w.refusal ≢ 0 → Entered s (to_z w64 (of_z w64 (pos 0 -ℤ to_z w64 w.refusal))) e e'
+  entered_refused small z = record {
+    answer = rw (to_z-of_z (minus_fits w.refusal small), minus w.refusal small z) (sym (entry_says s e ∙ rw (← listed.answer, ne_eqb w.refusal 0 z)));
     output = listed.output;
   }
 
-  pub entered-fits : length e < 2 ^ 63 → w.refusal ≡ 0 → Entered s (to_z w64 w.len) e e'
-  entered-fits h z = record {
-    answer = rw (to_z_pos w64 {n = w.len} (omega (arith, len-within))) (sym (entry-says s e ∙ rw (← listed.answer, eq-eqb w.refusal 0 z)));
+  pub entered_fits : length e < 2 ^ 63 → w.refusal ≡ 0 → Entered s (to_z w64 w.len) e e'
+  entered_fits h z = record {
+    answer = rw (to_z_pos w64 {n = w.len} (omega (arith, len_within))) (sym (entry_says s e ∙ rw (← listed.answer, eq-eqb w.refusal 0 z)));
     output = listed.output;
   }

@@ -5,41 +5,41 @@ use Rattle.escrow.specs.declared.Cover.{Cover}
 use Rattle.escrow.specs.declared.Cover.TheVariants.{Unasked}
 use Rattle.session_file.specs.declared.records.Mark.{Mark}
 use Rattle.session_file.specs.declared.records.Mark.TheVariants.{Unknown, SH, SI, OR, SC, CL, AL, RX, RC, ST, SK, FN, EX}
-use Rattle.session_file.specs.Fields.{paramsOf, givenOf, fieldsOf}
-use Rattle.session_file.specs.Calls.{headerFields, fieldsIn}
+use Rattle.session_file.specs.Fields.{params_of, given_of, fields_of}
+use Rattle.session_file.specs.Calls.{header_fields, fields_in}
 
 module _ (rec : List ℕ) where
-  abbrev coverIn : Mark → Cover
-  coverIn m = (fieldsIn (fieldsOf m rec)).cover
+  abbrev cover_in : Mark → Cover
+  cover_in m = (fields_in (fields_of m rec)).cover
 
-  pub header-read : (m : Mark) → (m ≡ SH) ⊎ (m ≡ SI) → headerFields (paramsOf rec) (givenOf rec) (coverIn m) ≡ fieldsIn (fieldsOf m rec)
-  unfolding fieldsOf
-  header-read Unknown h = ⊎_elim (λ e. cc e) (λ e. cc e) h
-  header-read SH h = refl
-  header-read SI h = refl
-  header-read OR h = ⊎_elim (λ e. cc e) (λ e. cc e) h
-  header-read SC h = ⊎_elim (λ e. cc e) (λ e. cc e) h
-  header-read CL h = ⊎_elim (λ e. cc e) (λ e. cc e) h
-  header-read AL h = ⊎_elim (λ e. cc e) (λ e. cc e) h
-  header-read RX h = ⊎_elim (λ e. cc e) (λ e. cc e) h
-  header-read RC h = ⊎_elim (λ e. cc e) (λ e. cc e) h
-  header-read ST h = ⊎_elim (λ e. cc e) (λ e. cc e) h
-  header-read SK h = ⊎_elim (λ e. cc e) (λ e. cc e) h
-  header-read FN h = ⊎_elim (λ e. cc e) (λ e. cc e) h
-  header-read EX h = ⊎_elim (λ e. cc e) (λ e. cc e) h
+  pub header_read : (m : Mark) → (m ≡ SH) ⊎ (m ≡ SI) → header_fields (params_of rec) (given_of rec) (cover_in m) ≡ fields_in (fields_of m rec)
+  unfolding fields_of
+  header_read Unknown h = ⊎_elim (λ e. cc e) (λ e. cc e) h
+  header_read SH h = refl
+  header_read SI h = refl
+  header_read OR h = ⊎_elim (λ e. cc e) (λ e. cc e) h
+  header_read SC h = ⊎_elim (λ e. cc e) (λ e. cc e) h
+  header_read CL h = ⊎_elim (λ e. cc e) (λ e. cc e) h
+  header_read AL h = ⊎_elim (λ e. cc e) (λ e. cc e) h
+  header_read RX h = ⊎_elim (λ e. cc e) (λ e. cc e) h
+  header_read RC h = ⊎_elim (λ e. cc e) (λ e. cc e) h
+  header_read ST h = ⊎_elim (λ e. cc e) (λ e. cc e) h
+  header_read SK h = ⊎_elim (λ e. cc e) (λ e. cc e) h
+  header_read FN h = ⊎_elim (λ e. cc e) (λ e. cc e) h
+  header_read EX h = ⊎_elim (λ e. cc e) (λ e. cc e) h
 
-  pub unasked-read : (m : Mark) → m ≢ SI → Unasked ≡ coverIn m
-  unfolding fieldsOf
-  unasked-read Unknown h = refl
-  unasked-read SH h = refl
-  unasked-read SI h = absurd (h refl)
-  unasked-read OR h = refl
-  unasked-read SC h = refl
-  unasked-read CL h = refl
-  unasked-read AL h = refl
-  unasked-read RX h = refl
-  unasked-read RC h = refl
-  unasked-read ST h = refl
-  unasked-read SK h = refl
-  unasked-read FN h = refl
-  unasked-read EX h = refl
+  pub unasked_read : (m : Mark) → m ≢ SI → Unasked ≡ cover_in m
+  unfolding fields_of
+  unasked_read Unknown h = refl
+  unasked_read SH h = refl
+  unasked_read SI h = absurd (h refl)
+  unasked_read OR h = refl
+  unasked_read SC h = refl
+  unasked_read CL h = refl
+  unasked_read AL h = refl
+  unasked_read RX h = refl
+  unasked_read RC h = refl
+  unasked_read ST h = refl
+  unasked_read SK h = refl
+  unasked_read FN h = refl
+  unasked_read EX h = refl

@@ -30,18 +30,18 @@ abbrev pub lent : (at k : ℕ) (whole left : List ℕ) → List ℕ
 lent at k whole left = take at whole ++ (left ++ drop k (drop at whole))
 
 module _ (at k : ℕ) (whole : List ℕ) (kept : k ≡ length whole - at) where
-  pub to-end : take k (drop at whole) ≡ drop at whole
-  to-end = take_all k (drop at whole) (rw (length-drop, kept) (omega arith))
+  pub to_end : take k (drop at whole) ≡ drop at whole
+  to_end = take_all k (drop at whole) (rw (length-drop, kept) (omega arith))
 
-  nothing-after : drop k (drop at whole) ≡ []
-  nothing-after = drop_of_length-le (drop at whole) {i = k} (rw (length-drop, kept) (omega arith))
+  nothing_after : drop k (drop at whole) ≡ []
+  nothing_after = drop_of_length-le (drop at whole) {i = k} (rw (length-drop, kept) (omega arith))
 
   -- what is put at the part's start is put at its place in the whole
-  pub puts-lent : {text : List ℕ} {n : ℕ} {left : List ℕ} → Puts text 0 n (take k (drop at whole)) left → Puts text at (at + n) whole (lent at k whole left)
-  puts-lent p = record { place = rw (p.place, zero-add); bytes = rw (nothing-after, append-nil, p.bytes, to-end, zero-add, drop-drop) }
+  pub puts_lent : {text : List ℕ} {n : ℕ} {left : List ℕ} → Puts text 0 n (take k (drop at whole)) left → Puts text at (at + n) whole (lent at k whole left)
+  puts_lent p = record { place = rw (p.place, zero-add); bytes = rw (nothing_after, append-nil, p.bytes, to_end, zero-add, drop-drop) }
 
   -- and the whole stays as long as it is
-  pub length-lent : (left : List ℕ) → at ≤ length whole → length left ≡ length (take k (drop at whole)) → length (lent at k whole left) ≡ length whole
-  length-lent left h same =
-      let f : length left ≡ length whole - at = same ∙ rw (to-end, length-drop) in
-      rw (nothing-after, append-nil, length-append) (omega (arith, length-take-le at whole h))
+  pub length_lent : (left : List ℕ) → at ≤ length whole → length left ≡ length (take k (drop at whole)) → length (lent at k whole left) ≡ length whole
+  length_lent left h same =
+      let f : length left ≡ length whole - at = same ∙ rw (to_end, length-drop) in
+      rw (nothing_after, append-nil, length-append) (omega (arith, length-take-le at whole h))

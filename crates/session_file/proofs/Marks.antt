@@ -3,8 +3,8 @@
 use Rattle.std.proofs.Common.{◌≡◌, ℕ, ◌≢◌, refl, ne_eqb}
 use Rattle.session_file.specs.declared.records.Mark.{Mark}
 use Rattle.session_file.specs.declared.records.Mark.TheVariants.{Unknown, SH, SI, OR, SC, CL, AL, RX, RC, ST, SK, FN, EX}
-use Rattle.session_file.specs.Marks.{letters, markOf, shapeOf}
-use Rattle.session_file.specs.Heads.{shapeIn, flagsIn}
+use Rattle.session_file.specs.Marks.{letters, mark_of, shape_of}
+use Rattle.session_file.specs.Heads.{shape_in, flags_in}
 
 -- none of the twelve
 abbrev pub NoMark : ℕ → Type 0
@@ -13,9 +13,9 @@ NoMark m =
     × (m ≢ letters "A" "L")) × (m ≢ letters "R" "X")) × (m ≢ letters "R" "C")) × (m ≢ letters "S" "T"))
     × (m ≢ letters "S" "K")) × (m ≢ letters "F" "N")) × (m ≢ letters "E" "X")
 
-pub mark-none : (m : ℕ) → NoMark m → markOf m ≡ Unknown
-unfolding markOf
-mark-none m h =
+pub mark_none : (m : ℕ) → NoMark m → mark_of m ≡ Unknown
+unfolding mark_of
+mark_none m h =
     rw (
       ne_eqb m (letters "S" "H") h.0.0.0.0.0.0.0.0.0.0.0.1,
       ne_eqb m (letters "S" "I") h.0.0.0.0.0.0.0.0.0.0.1,
@@ -32,18 +32,18 @@ mark-none m h =
     )
 
 -- no mark has more flags than the struct of its shape holds
-pub flags-held : (m : Mark) → flagsIn (shapeIn (shapeOf m)) ≡ (shapeOf m).flags
-unfolding shapeOf
-flags-held Unknown = refl
-flags-held SH = refl
-flags-held SI = refl
-flags-held OR = refl
-flags-held SC = refl
-flags-held CL = refl
-flags-held AL = refl
-flags-held RX = refl
-flags-held RC = refl
-flags-held ST = refl
-flags-held SK = refl
-flags-held FN = refl
-flags-held EX = refl
+pub flags_held : (m : Mark) → flags_in (shape_in (shape_of m)) ≡ (shape_of m).flags
+unfolding shape_of
+flags_held Unknown = refl
+flags_held SH = refl
+flags_held SI = refl
+flags_held OR = refl
+flags_held SC = refl
+flags_held CL = refl
+flags_held AL = refl
+flags_held RX = refl
+flags_held RC = refl
+flags_held ST = refl
+flags_held SK = refl
+flags_held FN = refl
+flags_held EX = refl

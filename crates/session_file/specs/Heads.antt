@@ -3,16 +3,16 @@ use Rattle.std.specs.Prelude.{ℕ, List, [], ◌∷◌, length, take, slice_inde
 use Rattle.session_file.specs.declared.records.Shape as declared
 use Rattle.session_file.specs.declared.records.Head.{Head}
 use Rattle.session_file.specs.Marks.{Shape}
-use Rattle.session_file.specs.Reads.{markAt, shapeAt, readingRefusal}
+use Rattle.session_file.specs.Reads.{mark_at, shape_at, reading_refusal}
 
 -- the struct of a shape
-abbrev pub shapeIn : Shape → declared.Shape
-shapeIn s = record { kind = s.kind; width = s.width; flags = length s.flags; first = slice_index s.flags 0; second = slice_index s.flags 1 }
+abbrev pub shape_in : Shape → declared.Shape
+shape_in s = record { kind = s.kind; width = s.width; flags = length s.flags; first = slice_index s.flags 0; second = slice_index s.flags 1 }
 
 -- the flags that it holds
-abbrev pub flagsIn : declared.Shape → List ℕ
-flagsIn s = take s.flags (s.first ∷ s.second ∷ [])
+abbrev pub flags_in : declared.Shape → List ℕ
+flags_in s = take s.flags (s.first ∷ s.second ∷ [])
 
 -- the head of what is left of a file
-abbrev pub headAt : (before : ℕ) (rest : List ℕ) → Head
-headAt before rest = record { refusal = readingRefusal before rest; mark = markAt rest; kind = (shapeAt rest).kind; width = (shapeAt rest).width }
+abbrev pub head_at : (before : ℕ) (rest : List ℕ) → Head
+head_at before rest = record { refusal = reading_refusal before rest; mark = mark_at rest; kind = (shape_at rest).kind; width = (shape_at rest).width }

@@ -8,8 +8,8 @@ use Rattle.session_file.specs.declared.records.Mark.TheVariants.{Unknown, SH, SI
 abbrev pub letters : Char → Char → ℕ
 letters a b = code a + 256 * code b
 
-unfoldable pub markOf : ℕ → Mark
-markOf m =
+unfoldable pub mark_of : ℕ → Mark
+mark_of m =
     cond (m == (letters "S" "H")) SH
     (cond (m == (letters "S" "I")) SI
     (cond (m == (letters "O" "R")) OR
@@ -25,17 +25,17 @@ markOf m =
     Unknown)))))))))))
 
 -- the kinds of records, in the order in which they stand in a file
-abbrev pub noKind : ℕ
-noKind = 0
+abbrev pub no_kind : ℕ
+no_kind = 0
 
-abbrev pub headerKind : ℕ
-headerKind = 1
+abbrev pub header_kind : ℕ
+header_kind = 1
 
-abbrev pub orderKind : ℕ
-orderKind = 2
+abbrev pub order_kind : ℕ
+order_kind = 2
 
-abbrev pub callKind : ℕ
-callKind = 3
+abbrev pub call_kind : ℕ
+call_kind = 3
 
 -- what a mark says of its record: its kind, how many bytes it has in all, and which of them are flags: 'Forced, revealed and has-id are 0 or 1',
 -- and the mark too
@@ -47,22 +47,22 @@ pub record Shape : Type 0 where
 abbrev pub shape : (kind width : ℕ) (flags : List ℕ) → Shape
 shape kind width flags = record { kind = kind; width = width; flags = flags }
 
-unfoldable pub shapeOf : Mark → Shape
-shapeOf Unknown = shape noKind 2 []
-shapeOf SH = shape headerKind 94 (35 ∷ 68 ∷ [])
-shapeOf SI = shape headerKind 95 (35 ∷ 68 ∷ [])
-shapeOf OR = shape orderKind 60 (43 ∷ [])
-shapeOf SC = shape callKind 30 (13 ∷ [])
-shapeOf CL = shape callKind 10 []
-shapeOf AL = shape callKind 11 []
-shapeOf RX = shape callKind 54 []
-shapeOf RC = shape callKind 42 []
-shapeOf ST = shape callKind 6 []
-shapeOf SK = shape callKind 15 []
-shapeOf FN = shape callKind 10 []
-shapeOf EX = shape callKind 10 []
+unfoldable pub shape_of : Mark → Shape
+shape_of Unknown = shape no_kind 2 []
+shape_of SH = shape header_kind 94 (35 ∷ 68 ∷ [])
+shape_of SI = shape header_kind 95 (35 ∷ 68 ∷ [])
+shape_of OR = shape order_kind 60 (43 ∷ [])
+shape_of SC = shape call_kind 30 (13 ∷ [])
+shape_of CL = shape call_kind 10 []
+shape_of AL = shape call_kind 11 []
+shape_of RX = shape call_kind 54 []
+shape_of RC = shape call_kind 42 []
+shape_of ST = shape call_kind 6 []
+shape_of SK = shape call_kind 15 []
+shape_of FN = shape call_kind 10 []
+shape_of EX = shape call_kind 10 []
 
 -- 'One `SH` first, then `OR` records, then calls': a header, `SH` or `SI`, stands first, any other record after a header and after no record of a later kind.
--- before is the kind of the record before, noKind at the start
-unfoldable pub inPlace : (before kind : ℕ) → Bool
-inPlace before kind = cond (kind == headerKind) (before == noKind) (nat_lt 0 before && nat_le before kind)
+-- before is the kind of the record before, no_kind at the start
+unfoldable pub in_place : (before kind : ℕ) → Bool
+in_place before kind = cond (kind == header_kind) (before == no_kind) (nat_lt 0 before && nat_le before kind)

@@ -10,39 +10,39 @@ use Rattle.escrow.specs.declared.Cover.{Cover}
 use Rattle.auction_engine.specs.declared.Session.{Session}
 use Rattle.auction_engine.specs.declared.Answer.{Answer}
 use Rattle.auction_engine.specs.declared.changes.Change.{Change}
-use Rattle.auction_engine.specs.Engine.{recordArguments}
-use Rattle.auction_engine.specs.Opening.{headerRefusal}
-use Rattle.auction_engine.specs.Changes.{recordChange}
+use Rattle.auction_engine.specs.Engine.{record_arguments}
+use Rattle.auction_engine.specs.Opening.{header_refusal}
+use Rattle.auction_engine.specs.Changes.{record_change}
 use Rattle.session_file.specs.declared.fields.Fields.{Fields}
 use Rattle.session_file.specs.declared.fields.Record.{Record}
 use Rattle.session_file.specs.declared.file.Place.{Place}
 use Rattle.session_file.specs.declared.file.Step.{Step}
-use Rattle.session_file.specs.Marks.{headerKind, orderKind, callKind}
-use Rattle.session_file.specs.Fields.{fieldsOf}
-use Rattle.session_file.specs.Calls.{fieldsIn}
-use Rattle.session_file.specs.Reads.{markAt, shapeAt, recordAt, readingRefusal}
+use Rattle.session_file.specs.Marks.{header_kind, order_kind, call_kind}
+use Rattle.session_file.specs.Fields.{fields_of}
+use Rattle.session_file.specs.Calls.{fields_in}
+use Rattle.session_file.specs.Reads.{mark_at, shape_at, record_at, reading_refusal}
 use Rattle.session_file.specs.File.{listing}
 
 -- the record at a place of a file
-abbrev pub recordIn : List ℕ → Place → Record
-recordIn s p =
+abbrev pub record_in : List ℕ → Place → Record
+record_in s p =
     let rest : List ℕ = drop p.at s in
-    record { refusal = readingRefusal p.stage rest; width = (shapeAt rest).width; fields = fieldsIn (fieldsOf (markAt rest) (recordAt rest)) }
+    record { refusal = reading_refusal p.stage rest; width = (shape_at rest).width; fields = fields_in (fields_of (mark_at rest) (record_at rest)) }
 
 -- the next place of a file, after a record of these fields and that width
-unfoldable pub placeAfter : Place → Fields → (width : ℕ) (ends : Bool) (end : ℕ) → Place
-placeAfter p f width ends end =
+unfoldable pub place_after : Place → Fields → (width : ℕ) (ends : Bool) (end : ℕ) → Place
+place_after p f width ends end =
     cond ends (record { at = end; stage = p.stage; cover = p.cover })
-    (record { at = p.at + width; stage = f.kind; cover = cond (f.kind == headerKind) f.cover p.cover })
+    (record { at = p.at + width; stage = f.kind; cover = cond (f.kind == header_kind) f.cover p.cover })
 
 -- what ends the file before the session is looked at
-unfoldable pub earlyRefusal : (refusal : ℕ) → Fields → ℕ
-earlyRefusal n f =
-    n then cond (f.kind == headerKind) (headerRefusal f.params f.given f.cover) (cond (f.kind == callKind) (recordArguments f.call) 0)
+unfoldable pub early_refusal : (refusal : ℕ) → Fields → ℕ
+early_refusal n f =
+    n then cond (f.kind == header_kind) (header_refusal f.params f.given f.cover) (cond (f.kind == call_kind) (record_arguments f.call) 0)
 
 -- what the record changes
-abbrev pub changeIn : Session → Cover → Fields → Change
-changeIn s cover f = recordChange s (f.kind == orderKind) cover f.row f.call
+abbrev pub change_in : Session → Cover → Fields → Change
+change_in s cover f = record_change s (f.kind == order_kind) cover f.row f.call
 
 -- a record that ends the file, and a header
 abbrev pub stops : (refusal : ℕ) → Step
@@ -52,19 +52,19 @@ abbrev pub opening : Step
 opening = record { refusal = 0; ends = false; opens = true }
 
 -- what is to be done with a record, where its change is refused by a number
-unfoldable pub stepOf : (refusal : ℕ) → Fields → (changing : ℕ) → Step
-stepOf n f changing =
-    cond (earlyRefusal n f == 0)
-    (cond (f.kind == headerKind) opening
-    (record { refusal = changing; ends = f.kind == orderKind && not (changing == 0); opens = false }))
-    (stops (earlyRefusal n f))
+unfoldable pub step_of : (refusal : ℕ) → Fields → (changing : ℕ) → Step
+step_of n f changing =
+    cond (early_refusal n f == 0)
+    (cond (f.kind == header_kind) opening
+    (record { refusal = changing; ends = f.kind == order_kind && not (changing == 0); opens = false }))
+    (stops (early_refusal n f))
 
 -- what is said of an answer: the refusal, or the events
-unfoldable pub saidAll : Answer → Events
-saidAll a = cond (a.refusal == 0) a.events (packed (Refused a.refusal ∷ []))
+unfoldable pub said_all : Answer → Events
+said_all a = cond (a.refusal == 0) a.events (packed (Refused a.refusal ∷ []))
 
 -- the listing of a file that is not too long, where it fits
 pub record Ran (input : List ℕ) (r : Written) (before after : List ℕ) : Type 0 where
   pub answer : r ≡ written (listing input) before
   pub bytes : length (listing input) ≤ length before → after ≡ splice 0 (listing input) before
-  pub same-length : length after ≡ length before
+  pub same_length : length after ≡ length before

@@ -1,8 +1,8 @@
 // The fields of a record: a match over its mark chooses the reader. `rec` is the record's own bytes, its mark first.
 ghost use Rattle.std.specs.Prelude.{◌≡◌};
-ghost use Rattle.session_file.specs.Fields.{paramsOf, givenOf, rowOf, fieldsOf};
-ghost use Rattle.session_file.specs.Calls.{blankParams, blankGiven, blankRow, noFields, headerFields, orderFields, callFields, fieldsIn};
-ghost use Rattle.session_file.specs.Steps.{recordIn};
+ghost use Rattle.session_file.specs.Fields.{params_of, given_of, row_of, fields_of};
+ghost use Rattle.session_file.specs.Calls.{blank_params, blank_given, blank_row, no_fields, header_fields, order_fields, call_fields, fields_in};
+ghost use Rattle.session_file.specs.Steps.{record_in};
 
 use crate::file::Place;
 use crate::records::Mark;
@@ -33,7 +33,7 @@ pub struct Record {
 
 // The record at a place of a file.
 pub fn record_at(input: &[u8], place: Place) -> Record
-    ensures { result ≡ recordIn input.now place }
+    ensures { result ≡ record_in input.now place }
 {
     let rest = records::rest_of(input, place.at);
     let head = records::head_of(rest, place.stage);
@@ -48,7 +48,7 @@ pub fn record_at(input: &[u8], place: Place) -> Record
 
 // The one dispatch. An unknown mark has no fields.
 fn read(mark: Mark, rec: &[u8]) -> Fields
-    ensures { result ≡ fieldsIn (fieldsOf mark rec.now) }
+    ensures { result ≡ fields_in (fields_of mark rec.now) }
 {
     match mark {
         Mark::Unknown => blank(),
@@ -67,7 +67,7 @@ fn read(mark: Mark, rec: &[u8]) -> Fields
 }
 
 fn blank() -> Fields
-    ensures { result ≡ noFields }
+    ensures { result ≡ no_fields }
 {
     Fields {
         kind: records::NO_KIND,
@@ -80,7 +80,7 @@ fn blank() -> Fields
 }
 
 fn of_header(params: Params, given: Given, cover: Cover) -> Fields
-    ensures { result ≡ headerFields params given cover }
+    ensures { result ≡ header_fields params given cover }
 {
     Fields {
         kind: records::HEADER,
@@ -93,7 +93,7 @@ fn of_header(params: Params, given: Given, cover: Cover) -> Fields
 }
 
 fn of_order(row: Row) -> Fields
-    ensures { result ≡ orderFields row }
+    ensures { result ≡ order_fields row }
 {
     Fields {
         kind: records::ORDER,
@@ -106,7 +106,7 @@ fn of_order(row: Row) -> Fields
 }
 
 fn of_call(call: CallRecord) -> Fields
-    ensures { result ≡ callFields call }
+    ensures { result ≡ call_fields call }
 {
     Fields {
         kind: records::CALL,
@@ -119,7 +119,7 @@ fn of_call(call: CallRecord) -> Fields
 }
 
 fn no_params() -> Params
-    ensures { result ≡ blankParams }
+    ensures { result ≡ blank_params }
 {
     Params {
         reveal_end: 0,
@@ -133,7 +133,7 @@ fn no_params() -> Params
 }
 
 fn no_given() -> Given
-    ensures { result ≡ blankGiven }
+    ensures { result ≡ blank_given }
 {
     Given {
         mark: false,
@@ -145,7 +145,7 @@ fn no_given() -> Given
 }
 
 fn no_row() -> Row
-    ensures { result ≡ blankRow }
+    ensures { result ≡ blank_row }
 {
     Row {
         owner: [0; 32],
@@ -158,7 +158,7 @@ fn no_row() -> Row
 }
 
 fn params_of(rec: &[u8]) -> Params
-    ensures { result ≡ paramsOf rec.now }
+    ensures { result ≡ params_of rec.now }
 {
     let reveal_end = reading::time_at(rec, 2);
     let rofr_window = reading::time_at(rec, 10);
@@ -179,7 +179,7 @@ fn params_of(rec: &[u8]) -> Params
 }
 
 fn given_of(rec: &[u8]) -> Given
-    ensures { result ≡ givenOf rec.now }
+    ensures { result ≡ given_of rec.now }
 {
     let mark = reading::flag_at(rec, 68);
     let reserve = reading::u64_at(rec, 69);
@@ -197,7 +197,7 @@ fn given_of(rec: &[u8]) -> Given
 
 // What a header asks of escrows: `SI` has one byte more than `SH`.
 fn cover_of(mark: Mark, rec: &[u8]) -> Cover
-    ensures { result ≡ (fieldsIn (fieldsOf mark rec.now)).cover }
+    ensures { result ≡ (fields_in (fields_of mark rec.now)).cover }
 {
     match mark {
         Mark::SI => Cover::Decimals(reading::u8_at(rec, 94)),
@@ -206,7 +206,7 @@ fn cover_of(mark: Mark, rec: &[u8]) -> Cover
 }
 
 fn row_of(rec: &[u8]) -> Row
-    ensures { result ≡ rowOf rec.now }
+    ensures { result ≡ row_of rec.now }
 {
     let owner = reading::key_at(rec, 2);
     let side = reading::u8_at(rec, 34);

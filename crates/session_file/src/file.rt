@@ -1,11 +1,11 @@
 // What a record of a file does to the session, and what is said of it.
 ghost use Rattle.std.specs.Prelude.{◌≡◌, ◌+◌, ◌^◌, ◌<◌, false, cond, [], ◌∷◌, ◌==◌};
-ghost use Rattle.session_file.specs.Marks.{headerKind};
+ghost use Rattle.session_file.specs.Marks.{header_kind};
 ghost use Rattle.session_file.specs.File.{unopened};
-ghost use Rattle.events.specs.Events.{eventPair};
+ghost use Rattle.events.specs.Events.{event_pair};
 ghost use Rattle.events.specs.declared.Event.TheVariants.{Opened, Refused};
-ghost use Rattle.session_file.specs.Parts.{firstPlace};
-ghost use Rattle.session_file.specs.Steps.{placeAfter, earlyRefusal, stepOf, saidAll};
+ghost use Rattle.session_file.specs.Parts.{first_place};
+ghost use Rattle.session_file.specs.Steps.{place_after, early_refusal, step_of, said_all};
 
 use crate::fields::Fields;
 use crate::records;
@@ -25,7 +25,7 @@ pub struct Place {
 
 // Before the first record.
 pub(crate) fn first_place() -> Place
-    ensures { result ≡ firstPlace }
+    ensures { result ≡ first_place }
 {
     Place {
         at: 0,
@@ -37,7 +37,7 @@ pub(crate) fn first_place() -> Place
 // The next place: after a record of these fields and that width, or at the end of the input where the record ends the file.
 pub(crate) fn place_after(place: Place, f: Fields, width: usize, ends: bool, end: usize) -> Place
     requires { ends ≡ false → place.at + width < 2 ^ 64 }
-    ensures { result ≡ placeAfter place f width ends end }
+    ensures { result ≡ place_after place f width ends end }
 {
     let mut next = place;
     if ends {
@@ -55,7 +55,7 @@ pub(crate) fn place_after(place: Place, f: Fields, width: usize, ends: bool, end
 
 // What is asked of escrows after a record of that kind: a header says it anew.
 fn asked(kind: u8, by_record: Cover, before: Cover) -> Cover
-    ensures { result ≡ cond (kind == headerKind) by_record before }
+    ensures { result ≡ cond (kind == header_kind) by_record before }
 {
     if kind == records::HEADER {
         return by_record;
@@ -99,7 +99,7 @@ pub struct Step {
 
 // By what reading refuses, the fields, and what refuses the change. A refused order ends the file; a refused call lets it go on.
 pub(crate) fn step_of(refusal: u8, f: Fields, changing: u8) -> Step
-    ensures { result ≡ stepOf refusal f changing }
+    ensures { result ≡ step_of refusal f changing }
 {
     let early = early_refusal(refusal, f);
     if early != 0 {
@@ -125,7 +125,7 @@ pub(crate) fn step_of(refusal: u8, f: Fields, changing: u8) -> Step
 
 // What ends the file before the session is looked at: the reading's refusal, the header's row, or 4 of a call's own arguments.
 fn early_refusal(refusal: u8, f: Fields) -> u8
-    ensures { result ≡ earlyRefusal refusal f }
+    ensures { result ≡ early_refusal refusal f }
 {
     if refusal != 0 {
         return refusal;
@@ -144,20 +144,20 @@ fn early_refusal(refusal: u8, f: Fields) -> u8
 
 // What is said of a refusal, and of a header.
 pub(crate) fn refused(number: u8) -> EventPair
-    ensures { result ≡ eventPair (Refused number ∷ []) }
+    ensures { result ≡ event_pair (Refused number ∷ []) }
 {
     EventPair::one(Event::Refused(number))
 }
 
 pub(crate) fn opened() -> EventPair
-    ensures { result ≡ eventPair (Opened ∷ []) }
+    ensures { result ≡ event_pair (Opened ∷ []) }
 {
     EventPair::one(Event::Opened)
 }
 
 // What is said of an answer: the refusal, or else the events.
 pub(crate) fn said_all(a: Answer) -> Events
-    ensures { result ≡ saidAll a }
+    ensures { result ≡ said_all a }
 {
     if a.refusal != 0 {
         let none = Events::none();

@@ -3,8 +3,8 @@
 
 ghost use Rattle.std.specs.Prelude.{◌≡◌, ◌+◌, ◌^◌, ◌<◌, ◌≤◌, not, eqb, length, replicate, if◌then◌else◌, ◌==◌};
 ghost use Rattle.octets.specs.Writing.{Writes};
-ghost use Rattle.listing.specs.Lines.{endLine};
-ghost use Rattle.session_file.specs.File.{maxInput};
+ghost use Rattle.listing.specs.Lines.{end_line};
+ghost use Rattle.session_file.specs.File.{max_input};
 ghost use Rattle.session_file.specs.Entry.{Listed, Entered};
 ghost use Rattle.session_file.specs.Steps.{Ran};
 
@@ -53,7 +53,7 @@ pub extern "C" fn clear_session_file(input: &[u8], out: &mut [u8]) -> i64
 
 // The records in turn, each record's lines in the part after those already there. What a record changes is written where the session lies.
 fn run_file(input: &[u8], out: &mut [u8]) -> Written
-    requires { length input.now ≤ maxInput }
+    requires { length input.now ≤ max_input }
     ensures { Ran input.now result out.old out.new }
 {
     let mut session = file::unopened();
@@ -99,7 +99,7 @@ fn run_file(input: &[u8], out: &mut [u8]) -> Written
 }
 
 fn put_last(out: &mut [u8], stage: u8, s: Session) -> Written
-    ensures { Writes (endLine (not (stage == 0)) s.phase s.skipped_fills) result out.old out.new }
+    ensures { Writes (end_line (not (stage == 0)) s.phase s.skipped_fills) result out.old out.new }
 {
     listing::put_end(out, stage != 0, s.phase, s.skipped_fills)
 }

@@ -1,7 +1,7 @@
 // A listing part by part, for who has no room for a whole one: a record's lines, or the last line.
 ghost use Rattle.std.specs.Prelude.{◌≡◌, ◌<◌, false, length};
 ghost use Rattle.session_file.specs.Parts.{begun, PartPut};
-ghost use Rattle.session_file.specs.PartSteps.{wholeRefused, NextOf, RecordNext, handledBy};
+ghost use Rattle.session_file.specs.PartSteps.{whole_refused, NextOf, RecordNext, handled_by};
 
 use crate::fields::Fields;
 use crate::file::{Place, Step};
@@ -96,7 +96,7 @@ fn next_of(input: &[u8], s: Cursor) -> Next
 
 // 26 is said of the whole input, and nothing of it is read.
 fn whole_refused(s: Cursor, end: usize) -> Next
-    ensures { result ≡ wholeRefused s end }
+    ensures { result ≡ whole_refused s end }
 {
     let none = Events::none();
     let said = none.push(Event::Refused(refusals::INPUT_TOO_LONG));
@@ -141,7 +141,7 @@ struct Handled {
 
 // By what is to be done with the record.
 fn handle(session: Session, step: Step, change: Change, f: Fields) -> Handled
-    ensures { result ≡ handledBy session step change f }
+    ensures { result ≡ handled_by session step change f }
 {
     if step.refusal != 0 {
         let pair = file::refused(step.refusal);

@@ -2,9 +2,9 @@
 ghost use Rattle.std.specs.Prelude.{◌≡◌, ◌<◌, take, drop, nat_le};
 ghost use Rattle.laws.specs.Checks.{unless};
 ghost use Rattle.octets.specs.Bytes.{word};
-ghost use Rattle.session_file.specs.Marks.{markOf, shapeOf, inPlace};
-ghost use Rattle.session_file.specs.Reads.{flagsRefusal};
-ghost use Rattle.session_file.specs.Heads.{shapeIn, flagsIn, headAt};
+ghost use Rattle.session_file.specs.Marks.{mark_of, shape_of, in_place};
+ghost use Rattle.session_file.specs.Reads.{flags_refusal};
+ghost use Rattle.session_file.specs.Heads.{shape_in, flags_in, head_at};
 
 use laws::checks::{both, first_of, unless};
 use octets::reading;
@@ -38,7 +38,7 @@ pub const CALL: u8 = 3;
 
 // The mark of two bytes, read as one little-endian number.
 fn mark_of(m: u16) -> Mark
-    ensures { result ≡ markOf m }
+    ensures { result ≡ mark_of m }
 {
     match m {
         0x4853 => Mark::SH,
@@ -69,7 +69,7 @@ pub struct Shape {
 
 // The one table of the marks.
 fn shape_of(m: Mark) -> Shape
-    ensures { result ≡ shapeIn (shapeOf m) }
+    ensures { result ≡ shape_in (shape_of m) }
 {
     match m {
         Mark::Unknown => shaped(NO_KIND, 2, 0, 0, 0),
@@ -102,7 +102,7 @@ fn shaped(kind: u8, width: usize, flags: usize, first: usize, second: usize) -> 
 
 // One header first, then orders, then calls.
 fn in_place(before: u8, kind: u8) -> bool
-    ensures { result ≡ inPlace before kind }
+    ensures { result ≡ in_place before kind }
 {
     if kind == HEADER {
         return before == NO_KIND;
@@ -121,7 +121,7 @@ pub struct Head {
 
 // The head of what is left of a file: 1 no whole mark; 2 unknown; 3 out of order; 1 cut; 4 a flag outside its values.
 pub fn head_of(rest: &[u8], before: u8) -> Head
-    ensures { result ≡ headAt before rest.now }
+    ensures { result ≡ head_at before rest.now }
 {
     let mark = mark_of(reading::u16_at(rest, 0));
     let s = shape_of(mark);
@@ -166,7 +166,7 @@ pub fn own_bytes(rest: &[u8], width: usize) -> &[u8]
 
 // Each flag of the shape is 0 or 1, else 4.
 fn flags_refusal(rec: &[u8], s: Shape) -> u8
-    ensures { result ≡ flagsRefusal rec.now (flagsIn s) }
+    ensures { result ≡ flags_refusal rec.now (flags_in s) }
 {
     if s.flags == 0 {
         return 0;

@@ -1,9 +1,9 @@
 // A session and a call, read from a block of bytes.
 ghost use Rattle.std.specs.Prelude.{◌≡◌, ◌<◌};
 ghost use Rattle.laws.specs.Lists.{table};
-ghost use Rattle.credit_math.specs.Limits.{maxOrders};
-ghost use Rattle.book.specs.Limits.{maxFills};
-ghost use Rattle.single_calls.specs.Image.{paramsIn, givenIn, clearedIn, orderIn, fillIn, sessionIn, callIn};
+ghost use Rattle.credit_math.specs.Limits.{max_orders};
+ghost use Rattle.book.specs.Limits.{max_fills};
+ghost use Rattle.single_calls.specs.Image.{params_in, given_in, cleared_in, order_in, fill_in, session_in, call_in};
 
 use auction_engine::{CallRecord, Cleared, Session};
 use book::{Fill, Given, Order, Params};
@@ -29,7 +29,7 @@ pub const BLOCK: usize = CALL_AT + 75;
 
 // Every place of the arrays is read; the counts may be above the limits.
 pub fn session_in(block: &[u8]) -> Session
-    ensures { result ≡ sessionIn block.now }
+    ensures { result ≡ session_in block.now }
 {
     let params = params_in(block);
     let given = given_in(block);
@@ -52,7 +52,7 @@ pub fn session_in(block: &[u8]) -> Session
 }
 
 fn params_in(block: &[u8]) -> Params
-    ensures { result ≡ paramsIn block.now }
+    ensures { result ≡ params_in block.now }
 {
     let rofr_authority = reading::key_at(block, 34);
     Params {
@@ -67,7 +67,7 @@ fn params_in(block: &[u8]) -> Params
 }
 
 fn given_in(block: &[u8]) -> Given
-    ensures { result ≡ givenIn block.now }
+    ensures { result ≡ given_in block.now }
 {
     Given {
         mark: reading::flag_at(block, 66),
@@ -79,7 +79,7 @@ fn given_in(block: &[u8]) -> Given
 }
 
 fn cleared_in(block: &[u8]) -> Cleared
-    ensures { result ≡ clearedIn block.now }
+    ensures { result ≡ cleared_in block.now }
 {
     Cleared {
         clear_price: reading::u64_at(block, 93),
@@ -90,7 +90,7 @@ fn cleared_in(block: &[u8]) -> Cleared
 }
 
 fn orders_in(block: &[u8]) -> [Order; Session::MAX_ORDERS]
-    ensures { result ≡ table (orderIn block.now) maxOrders }
+    ensures { result ≡ table (order_in block.now) max_orders }
 {
     let mut orders = [Order::empty(); Session::MAX_ORDERS];
     for i in 0..Session::MAX_ORDERS {
@@ -100,8 +100,8 @@ fn orders_in(block: &[u8]) -> [Order; Session::MAX_ORDERS]
 }
 
 fn order_in(block: &[u8], i: usize) -> Order
-    requires { i < maxOrders }
-    ensures { result ≡ orderIn block.now i }
+    requires { i < max_orders }
+    ensures { result ≡ order_in block.now i }
 {
     let at = ORDERS_AT + ORDER * i;
     let owner = reading::key_at(block, at);
@@ -122,7 +122,7 @@ fn order_in(block: &[u8], i: usize) -> Order
 }
 
 fn fills_in(block: &[u8]) -> [Fill; Session::MAX_FILLS]
-    ensures { result ≡ table (fillIn block.now) maxFills }
+    ensures { result ≡ table (fill_in block.now) max_fills }
 {
     let mut fills = [Fill::empty(); Session::MAX_FILLS];
     for i in 0..Session::MAX_FILLS {
@@ -132,8 +132,8 @@ fn fills_in(block: &[u8]) -> [Fill; Session::MAX_FILLS]
 }
 
 fn fill_in(block: &[u8], i: usize) -> Fill
-    requires { i < maxFills }
-    ensures { result ≡ fillIn block.now i }
+    requires { i < max_fills }
+    ensures { result ≡ fill_in block.now i }
 {
     let at = FILLS_AT + FILL * i;
     let buyer = reading::key_at(block, at);
@@ -148,7 +148,7 @@ fn fill_in(block: &[u8], i: usize) -> Fill
 }
 
 pub fn call_in(block: &[u8]) -> CallRecord
-    ensures { result ≡ callIn block.now }
+    ensures { result ≡ call_in block.now }
 {
     let id = reading::id_at(block, CALL_AT + 12);
     let wallet = reading::key_at(block, CALL_AT + 29);

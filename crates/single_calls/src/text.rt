@@ -1,7 +1,7 @@
 // The words of an answer. What a function writes is free in its contract: no contract can say what is written, and the comparison reads every
 // byte of it.
 ghost use Rattle.std.specs.Prelude.{◌≡◌, not, ◌||◌, ◌<◌, eqb};
-ghost use Rattle.events.specs.Events.{maxEvents};
+ghost use Rattle.events.specs.Events.{max_events};
 
 use auction_engine::Session;
 use book::{Fill, Order};
@@ -61,7 +61,7 @@ pub fn put_events(rt: &impl Output, events: Events) {
 }
 
 fn put_event_after(rt: &impl Output, i: usize, events: Events)
-    requires { i < maxEvents }
+    requires { i < max_events }
 {
     if 0 < i {
         say(rt, ";");

@@ -21,8 +21,8 @@ abbrev pub apart : ℕ → ℕ → ℕ
 apart a b = (a - b) + (b - a)
 
 -- how many binary digits n has, 0 for 0: the least i with n < 2 ^ i (n itself is one such, so none above it is looked at)
-unfoldable pub bitLength : ℕ → ℕ
-bitLength n = first (λ i. nat_lt n (2 ^ i)) n
+unfoldable pub bit_length : ℕ → ℕ
+bit_length n = first (λ i. nat_lt n (2 ^ i)) n
 
 -- quotient and remainder; by 0, as in `◌/◌` and `◌%◌`, the quotient is 0 and the remainder n
 pub record Divided (n d : ℕ) (r : Division) : Type 0 where

@@ -2,7 +2,7 @@
 #![tactic(auto)]
 
 ghost use Rattle.std.specs.Prelude.{◌≡◌, ◌+◌, ◌-◌, ◌*◌, ◌/◌, ◌%◌, ◌^◌, ◌<◌, ◌≤◌, min, ◌==◌, nat_lt};
-ghost use Rattle.wide.specs.Value.{value, modulus, apart, bitLength, Divided};
+ghost use Rattle.wide.specs.Value.{value, modulus, apart, bit_length, Divided};
 ghost use Rattle.wide.specs.Partway.{Partway};
 
 #[derive(Clone, Copy, Drop)]
@@ -216,7 +216,7 @@ fn bit(n: Wide, i: u64) -> u64
 
 // How many binary digits n has: its leading zeros are passed over.
 fn bits(n: Wide) -> u64
-    ensures { result ≡ bitLength (value n) }
+    ensures { result ≡ bit_length (value n) }
 {
     if n.hi == 0 {
         64 - u64::leading_zeros(n.lo) as u64

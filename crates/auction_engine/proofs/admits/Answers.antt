@@ -1,7 +1,7 @@
 -- `auction_engine::admits` meets its contract. By the arms: each kind has the phases of its own.
 use native.Mathlib.Omega.{arith}
 use Rattle.auction_engine.specs.Call.{admits}
-use Rattle.auction_engine.proofs.Phases.{no-such-kind}
+use Rattle.auction_engine.proofs.Phases.{no_such_kind}
 use Rattle.auction_engine.proofs.admits.Goals as goal
 
 pub returns-in-0 : goal.returns-in-0
@@ -41,4 +41,4 @@ unfolding admits
 returns-in-8 c = rw (c.in-8.is, c.not_ended.ensures)
 
 pub returns-in_default : goal.returns-in_default
-returns-in_default c = no-such-kind c.args.phase c.args.kind (omega arith)
+returns-in_default c = no_such_kind c.args.phase c.args.kind (omega arith)

@@ -1,7 +1,7 @@
 -- `clock::before_sum` meets its contract. A sum that fits is compared; one that does not is above or below every time, as the sign says.
 use mathlib.Core.Path.{sym, ◌∙◌}
 use mir.Facts.{to_z-of_z}
-use Rattle.clock.proofs.Laws.{sum-sfits, past-sum}
+use Rattle.clock.proofs.Laws.{sum_sfits, past_sum}
 use Rattle.clock.proofs.before_sum.Goals as goal
 
 pub overflow_add-end : goal.overflow_add-end
@@ -9,7 +9,7 @@ overflow_add-end c =
     let a = to_z-of_z c.ranges.a in
     let b = to_z-of_z c.ranges.b in
     let fits = rw (a, b) at (sym c.sum_fits.ensures ∙ c.if-sum_fits.true) in
-    rw (a, b) (sum-sfits _ _ fits)
+    rw (a, b) (sum_sfits _ _ fits)
 
 pub returns-then-sum_fits : goal.returns-then-sum_fits
 returns-then-sum_fits c =
@@ -17,11 +17,11 @@ returns-then-sum_fits c =
     let b = to_z-of_z c.ranges.b in
     let now = to_z-of_z c.ranges.now in
     let fits = rw (a, b) at (sym c.sum_fits.ensures ∙ c.if-sum_fits.true) in
-    rw (a, b, now, to_z-of_z (sum-sfits _ _ fits))
+    rw (a, b, now, to_z-of_z (sum_sfits _ _ fits))
 
 pub returns : goal.returns
 returns c =
     let a = to_z-of_z c.ranges.a in
     let b = to_z-of_z c.ranges.b in
     let fits = rw (a, b) at (sym c.sum_fits.ensures ∙ c.if-sum_fits.false) in
-    rw a (past-sum c.args.now c.args.a c.args.b c.ranges.now.sfits c.ranges.a.sfits c.ranges.b.sfits fits)
+    rw a (past_sum c.args.now c.args.a c.args.b c.ranges.now.sfits c.ranges.a.sfits c.ranges.b.sfits fits)

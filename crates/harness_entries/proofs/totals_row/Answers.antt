@@ -5,4 +5,4 @@ use Rattle.harness_entries.proofs.totals_row.Goals as goal
 
 pub returns : goal.returns
 unfolding value
-returns c = record { refusal-is = refl; count-is = refl; limit-is = refl; buy-is = refl; sell-is = refl }
+returns c = record { refusal_is = refl; count_is = refl; limit_is = refl; buy_is = refl; sell_is = refl }

@@ -2,125 +2,125 @@
 use Rattle.std.proofs.Common.{◌-◌, length, refl, ap, ◌∙◌, arith}
 use Rattle.session_file.specs.declared.file.Place.{Place}
 use Rattle.session_file.proofs.Lines.{onward}
-use Rattle.session_file.proofs.Stepping.{code-stepped, code-place, code-fits}
-use Rattle.session_file.proofs.Running.{running-start, running-last, Wrote, wrote-more, wrote-long}
-use Rattle.session_file.proofs.Ways.{wrote-refused, wrote-opened, wrote-applied, wrote-changed}
+use Rattle.session_file.proofs.Stepping.{code_stepped, code_place, code_fits}
+use Rattle.session_file.proofs.Running.{running_start, running_last, Wrote, wrote_more, wrote_long}
+use Rattle.session_file.proofs.Ways.{wrote_refused, wrote_opened, wrote_applied, wrote_changed}
 use Rattle.session_file.proofs.run_file.Goals.{then-step-ne0, else-step-ne0+then-step, else-step-ne0+else-step+then-change, else-step-ne0+else-step+else-change}
 use Rattle.session_file.proofs.run_file.Goals as goal
 
 pub loop-place-init : goal.loop-place-init
 loop-place-init c =
-    running-start c.args.input.now c.args.out.now c.unopened-session.result c.first_place-place.result c.requires c.unopened-session.ensures c.first_place-place.ensures
+    running_start c.args.input.now c.args.out.now c.unopened-session.result c.first_place-place.result c.requires c.unopened-session.ensures c.first_place-place.ensures
 
 pub bounds-session-i : goal.bounds-session-i
 bounds-session-i c =
     let l = c.loop-place in
-    let s = code-stepped c.args.input.now l.place l.session c.record_at-r.ensures c.change-change.ensures c.step_of-step.ensures in
-    s.order-place
+    let s = code_stepped c.args.input.now l.place l.session c.record_at-r.ensures c.change-change.ensures c.step_of-step.ensures in
+    s.order_place
 
 pub offset_bounds-session-i : goal.offset_bounds-session-i
 offset_bounds-session-i c =
     let l = c.loop-place in
-    let s = code-stepped c.args.input.now l.place l.session c.record_at-r.ensures c.change-change.ensures c.step_of-step.ensures in
-    omega (arith, s.order-place)
+    let s = code_stepped c.args.input.now l.place l.session c.record_at-r.ensures c.change-change.ensures c.step_of-step.ensures in
+    omega (arith, s.order_place)
 
 pub bounds-session-j : goal.bounds-session-j
 bounds-session-j c =
     let l = c.loop-place in
-    let s = code-stepped c.args.input.now l.place l.session c.record_at-r.ensures c.change-change.ensures c.step_of-step.ensures in
-    s.fill-place
+    let s = code_stepped c.args.input.now l.place l.session c.record_at-r.ensures c.change-change.ensures c.step_of-step.ensures in
+    s.fill_place
 
 pub offset_bounds-session-j : goal.offset_bounds-session-j
 offset_bounds-session-j c =
     let l = c.loop-place in
-    let s = code-stepped c.args.input.now l.place l.session c.record_at-r.ensures c.change-change.ensures c.step_of-step.ensures in
-    omega (arith, s.fill-place)
+    let s = code_stepped c.args.input.now l.place l.session c.record_at-r.ensures c.change-change.ensures c.step_of-step.ensures in
+    omega (arith, s.fill_place)
 
 pub returns-then-written-ne0 : goal.returns-then-written-ne0
 returns-then-written-ne0 c =
     let l = c.loop-place in
-    let s = code-stepped c.args.input.now l.place l.session c.record_at-r.ensures c.change-change.ensures c.step_of-step.ensures in
+    let s = code_stepped c.args.input.now l.place l.session c.record_at-r.ensures c.change-change.ensures c.step_of-step.ensures in
     let d : Wrote c.args.input.now l.out l.place l.session c.if-step-ne0.session l.number l.at c.if-step-ne0.written c.if-step-ne0.out =
     elim c.if-step-ne0.branch [
       | then-step-ne0 w ↦
           let p = w.put_pair-written in
-          wrote-refused s p.auto.out w.out-is w.written-is w.if-step-ne0.true w.refused.ensures w.session-is p.ensures.0
+          wrote_refused s p.auto.out w.out-is w.written-is w.if-step-ne0.true w.refused.ensures w.session-is p.ensures.0
       | else-step-ne0+then-step w ↦
           let p = w.put_pair in
-          wrote-opened s p.auto.out w.out-is w.written-is w.if-step-ne0.false w.if-step.true w.opened.ensures w.new-session.ensures w.session-is p.ensures.0
+          wrote_opened s p.auto.out w.out-is w.written-is w.if-step-ne0.false w.if-step.true w.opened.ensures w.new-session.ensures w.session-is p.ensures.0
       | else-step-ne0+else-step+then-change w ↦
           let p = w.put_events in
-          wrote-applied s p.auto.out w.out-is w.written-is w.if-step-ne0.false w.if-step.false w.if-change.true w.apply-a.ensures w.said_all.ensures w.session-is p.ensures.0
+          wrote_applied s p.auto.out w.out-is w.written-is w.if-step-ne0.false w.if-step.false w.if-change.true w.apply-a.ensures w.said_all.ensures w.session-is p.ensures.0
       | else-step-ne0+else-step+else-change w ↦
           let p = w.put_pair-else-change in
-          wrote-changed s p.auto.out w.out-is w.written-is w.if-step-ne0.false w.if-step.false w.if-change.false w.session-is p.ensures.0
+          wrote_changed s p.auto.out w.out-is w.written-is w.if-step-ne0.false w.if-step.false w.if-change.false w.session-is p.ensures.0
     ] in
-    wrote-long l.invariant d c.loop-place-test.true c.if-written-ne0.true
+    wrote_long l.invariant d c.loop-place-test.true c.if-written-ne0.true
 
 pub overflow_add-at : goal.overflow_add-at
 overflow_add-at c =
     let l = c.loop-place in
-    let s = code-stepped c.args.input.now l.place l.session c.record_at-r.ensures c.change-change.ensures c.step_of-step.ensures in
+    let s = code_stepped c.args.input.now l.place l.session c.record_at-r.ensures c.change-change.ensures c.step_of-step.ensures in
     let d : Wrote c.args.input.now l.out l.place l.session c.if-step-ne0.session l.number l.at c.if-step-ne0.written c.if-step-ne0.out =
     elim c.if-step-ne0.branch [
       | then-step-ne0 w ↦
           let p = w.put_pair-written in
-          wrote-refused s p.auto.out w.out-is w.written-is w.if-step-ne0.true w.refused.ensures w.session-is p.ensures.0
+          wrote_refused s p.auto.out w.out-is w.written-is w.if-step-ne0.true w.refused.ensures w.session-is p.ensures.0
       | else-step-ne0+then-step w ↦
           let p = w.put_pair in
-          wrote-opened s p.auto.out w.out-is w.written-is w.if-step-ne0.false w.if-step.true w.opened.ensures w.new-session.ensures w.session-is p.ensures.0
+          wrote_opened s p.auto.out w.out-is w.written-is w.if-step-ne0.false w.if-step.true w.opened.ensures w.new-session.ensures w.session-is p.ensures.0
       | else-step-ne0+else-step+then-change w ↦
           let p = w.put_events in
-          wrote-applied s p.auto.out w.out-is w.written-is w.if-step-ne0.false w.if-step.false w.if-change.true w.apply-a.ensures w.said_all.ensures w.session-is p.ensures.0
+          wrote_applied s p.auto.out w.out-is w.written-is w.if-step-ne0.false w.if-step.false w.if-change.true w.apply-a.ensures w.said_all.ensures w.session-is p.ensures.0
       | else-step-ne0+else-step+else-change w ↦
           let p = w.put_pair-else-change in
-          wrote-changed s p.auto.out w.out-is w.written-is w.if-step-ne0.false w.if-step.false w.if-change.false w.session-is p.ensures.0
+          wrote_changed s p.auto.out w.out-is w.written-is w.if-step-ne0.false w.if-step.false w.if-change.false w.session-is p.ensures.0
     ] in
-    let more = wrote-more l.invariant d c.loop-place-test.true c.if-written-ne0.false _ refl in
+    let more = wrote_more l.invariant d c.loop-place-test.true c.if-written-ne0.false _ refl in
     omega (arith, more.room)
 
 pub place_after-place-requires : goal.place_after-place-requires
 place_after-place-requires c =
     let l = c.loop-place in
-    λ z. let fits = code-fits c.args.input.now l.place l.session c.record_at-r.ensures c.change-change.ensures c.step_of-step.ensures l.invariant.within z in omega (arith, fits)
+    λ z. let fits = code_fits c.args.input.now l.place l.session c.record_at-r.ensures c.change-change.ensures c.step_of-step.ensures l.invariant.within z in omega (arith, fits)
 
 pub loop-place-smaller : goal.loop-place-smaller
 loop-place-smaller c =
     let l = c.loop-place in
-    let next = c.place_after-place.ensures ∙ code-place c.args.input.now l.place l.session c.record_at-r.ensures c.change-change.ensures c.step_of-step.ensures in
+    let next = c.place_after-place.ensures ∙ code_place c.args.input.now l.place l.session c.record_at-r.ensures c.change-change.ensures c.step_of-step.ensures in
     let on = onward c.args.input.now l.place l.session c.loop-place-test.true in
     omega (arith, on.on, on.within, ap (λ (p : Place). p.at) next)
 
 pub loop-place-preserved : goal.loop-place-preserved
 loop-place-preserved c =
     let l = c.loop-place in
-    let s = code-stepped c.args.input.now l.place l.session c.record_at-r.ensures c.change-change.ensures c.step_of-step.ensures in
+    let s = code_stepped c.args.input.now l.place l.session c.record_at-r.ensures c.change-change.ensures c.step_of-step.ensures in
     let d : Wrote c.args.input.now l.out l.place l.session c.if-step-ne0.session l.number l.at c.if-step-ne0.written c.if-step-ne0.out =
     elim c.if-step-ne0.branch [
       | then-step-ne0 w ↦
           let p = w.put_pair-written in
-          wrote-refused s p.auto.out w.out-is w.written-is w.if-step-ne0.true w.refused.ensures w.session-is p.ensures.0
+          wrote_refused s p.auto.out w.out-is w.written-is w.if-step-ne0.true w.refused.ensures w.session-is p.ensures.0
       | else-step-ne0+then-step w ↦
           let p = w.put_pair in
-          wrote-opened s p.auto.out w.out-is w.written-is w.if-step-ne0.false w.if-step.true w.opened.ensures w.new-session.ensures w.session-is p.ensures.0
+          wrote_opened s p.auto.out w.out-is w.written-is w.if-step-ne0.false w.if-step.true w.opened.ensures w.new-session.ensures w.session-is p.ensures.0
       | else-step-ne0+else-step+then-change w ↦
           let p = w.put_events in
-          wrote-applied s p.auto.out w.out-is w.written-is w.if-step-ne0.false w.if-step.false w.if-change.true w.apply-a.ensures w.said_all.ensures w.session-is p.ensures.0
+          wrote_applied s p.auto.out w.out-is w.written-is w.if-step-ne0.false w.if-step.false w.if-change.true w.apply-a.ensures w.said_all.ensures w.session-is p.ensures.0
       | else-step-ne0+else-step+else-change w ↦
           let p = w.put_pair-else-change in
-          wrote-changed s p.auto.out w.out-is w.written-is w.if-step-ne0.false w.if-step.false w.if-change.false w.session-is p.ensures.0
+          wrote_changed s p.auto.out w.out-is w.written-is w.if-step-ne0.false w.if-step.false w.if-change.false w.session-is p.ensures.0
     ] in
-    let next = c.place_after-place.ensures ∙ code-place c.args.input.now l.place l.session c.record_at-r.ensures c.change-change.ensures c.step_of-step.ensures in
-    wrote-more l.invariant d c.loop-place-test.true c.if-written-ne0.false c.place_after-place.result next
+    let next = c.place_after-place.ensures ∙ code_place c.args.input.now l.place l.session c.record_at-r.ensures c.change-change.ensures c.step_of-step.ensures in
+    wrote_more l.invariant d c.loop-place-test.true c.if-written-ne0.false c.place_after-place.result next
 
 pub ended-requires : goal.ended-requires
 ended-requires c =
     let l = c.loop-place in
-    let e = running-last l.invariant (length l.out - l.at) refl c.put_last.new.out c.put_last.auto.out c.loop-place-test.false c.put_last.ensures in
+    let e = running_last l.invariant (length l.out - l.at) refl c.put_last.new.out c.put_last.auto.out c.loop-place-test.false c.put_last.ensures in
     omega (arith, e.0)
 
 pub returns : goal.returns
 returns c =
     let l = c.loop-place in
-    let e = running-last l.invariant (length l.out - l.at) refl c.put_last.new.out c.put_last.auto.out c.loop-place-test.false c.put_last.ensures in
+    let e = running_last l.invariant (length l.out - l.at) refl c.put_last.new.out c.put_last.auto.out c.loop-place-test.false c.put_last.ensures in
     rw c.ended.ensures e.1

@@ -3,11 +3,11 @@ use mir.Val.{SFits}
 use mir.Syntax.{w64}
 use mir.Facts.{to_z-of_z}
 use borrow.Author.Rules.{rules}
-use Rattle.auction_engine.specs.Session.{rofrEnd}
+use Rattle.auction_engine.specs.Session.{rofr_end}
 use Rattle.auction_engine.proofs.Session.before_rofr_end.Goals as goal
 
 pub returns : goal.returns
-unfolding rofrEnd
+unfolding rofr_end
 returns c =
     let p = c.args.self.now.params in
     let g : SFits w64 p.reveal_end = search rules in

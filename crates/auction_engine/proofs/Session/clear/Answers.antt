@@ -2,10 +2,10 @@
 use mathlib.Core.Path.{sym, ◌∙◌, ap}
 use mir.Facts.{to_z-of_z}
 use Rattle.events.specs.Events.{packed}
-use Rattle.auction_engine.proofs.Answers.{refused-answer, accepted-answer}
-use Rattle.auction_engine.proofs.Clears.{stops-early, outcome-decides, clear-within}
+use Rattle.auction_engine.proofs.Answers.{refused_answer, accepted_answer}
+use Rattle.auction_engine.proofs.Clears.{stops_early, outcome_decides, clear_within}
 use Rattle.auction_engine.specs.Engine.{effect, events}
-use Rattle.auction_engine.specs.Clearing.{clearedBy, clearLines}
+use Rattle.auction_engine.specs.Clearing.{cleared_by, clear_lines}
 use Rattle.auction_engine.specs.Call as call
 use Rattle.auction_engine.proofs.Session.clear.Goals as goal
 
@@ -14,26 +14,26 @@ returns-then-refusal-ne0 c =
     let number = rw (to_z-of_z c.ranges.now) at c.clear_refusal-refusal.ensures in
     let z = c.if-refusal-ne0.true in
     let m = c.clear_refusal-refusal.result in
-    refused-answer c.args.self (call.clear c.args.now) m (stops-early c.args.self c.args.now m number z) c.refused.result c.refused.ensures z
+    refused_answer c.args.self (call.clear c.args.now) m (stops_early c.args.self c.args.now m number z) c.refused.result c.refused.ensures z
 
 pub returns-then-found-ne0 : goal.returns-then-found-ne0
 returns-then-found-ne0 c =
     let number = rw (to_z-of_z c.ranges.now) at c.clear_refusal-refusal.ensures in
-    let found = outcome-decides c.args.self c.args.now c.clear_refusal-refusal.result number c.if-refusal-ne0.false c.compute_clear-found.result c.compute_clear-found.ensures in
-    refused-answer c.args.self (call.clear c.args.now) c.compute_clear-found.result.refusal found c.refused-then-found-ne0.result c.refused-then-found-ne0.ensures c.if-found-ne0.true
+    let found = outcome_decides c.args.self c.args.now c.clear_refusal-refusal.result number c.if-refusal-ne0.false c.compute_clear-found.result c.compute_clear-found.ensures in
+    refused_answer c.args.self (call.clear c.args.now) c.compute_clear-found.result.refusal found c.refused-then-found-ne0.result c.refused-then-found-ne0.ensures c.if-found-ne0.true
 
 pub cleared_by-requires : goal.cleared_by-requires
 cleared_by-requires c =
     let number = rw (to_z-of_z c.ranges.now) at c.clear_refusal-refusal.ensures in
-    (clear-within c.args.self c.args.now (sym number ∙ c.if-refusal-ne0.false)).orders
+    (clear_within c.args.self c.args.now (sym number ∙ c.if-refusal-ne0.false)).orders
 
 pub returns : goal.returns
 unfolding effect events
 returns c =
     let number = rw (to_z-of_z c.ranges.now) at c.clear_refusal-refusal.ensures in
-    let found = outcome-decides c.args.self c.args.now c.clear_refusal-refusal.result number c.if-refusal-ne0.false c.compute_clear-found.result c.compute_clear-found.ensures in
+    let found = outcome_decides c.args.self c.args.now c.clear_refusal-refusal.result number c.if-refusal-ne0.false c.compute_clear-found.result c.compute_clear-found.ensures in
     let s = c.args.self in
     let o = c.compute_clear-found in
     c.cleared_by.ensures
-    ∙ accepted-answer s (call.clear c.args.now) o.result.refusal found (clearedBy s o.result) (packed (clearLines s o.result)) c.if-found-ne0.false
-    (ap (clearedBy s) o.ensures) (ap (λ x. packed (clearLines s x)) o.ensures)
+    ∙ accepted_answer s (call.clear c.args.now) o.result.refusal found (cleared_by s o.result) (packed (clear_lines s o.result)) c.if-found-ne0.false
+    (ap (cleared_by s) o.ensures) (ap (λ x. packed (clear_lines s x)) o.ensures)

@@ -1,24 +1,24 @@
 -- `auction_engine::Session::exercise_refusal` meets its contract. Stage by stage.
 use mathlib.Core.Path.{sym, ◌∙◌, refl}
 use mir.Facts.{to_z-of_z}
-use Rattle.auction_engine.proofs.Checks.{stops-checked, checked-within, own-decides}
-use Rattle.auction_engine.specs.Call.{argumentsRefusal}
-use Rattle.auction_engine.specs.Engine.{ownRefusal}
-use Rattle.auction_engine.specs.Rofr.{exerciseRefusal}
+use Rattle.auction_engine.proofs.Checks.{stops_checked, checked_within, own_decides}
+use Rattle.auction_engine.specs.Call.{arguments_refusal}
+use Rattle.auction_engine.specs.Engine.{own_refusal}
+use Rattle.auction_engine.specs.Rofr.{exercise_refusal}
 use Rattle.auction_engine.specs.Call as call
 use Rattle.auction_engine.proofs.Session.exercise_refusal.Goals as goal
 
 pub returns-then-bad-ne0 : goal.returns-then-bad-ne0
 returns-then-bad-ne0 c =
-    stops-checked c.args.self.now (call.exercise c.args.now c.args.issuer c.args.fill c.args.qty) c.checked-bad.result c.checked-bad.ensures c.if-bad-ne0.true
+    stops_checked c.args.self.now (call.exercise c.args.now c.args.issuer c.args.fill c.args.qty) c.checked-bad.result c.checked-bad.ensures c.if-bad-ne0.true
 
 pub take_refusal-no_fill-requires : goal.take_refusal-no_fill-requires
-take_refusal-no_fill-requires c = (checked-within c.args.self.now (sym c.checked-bad.ensures ∙ c.if-bad-ne0.false)).fills
+take_refusal-no_fill-requires c = (checked_within c.args.self.now (sym c.checked-bad.ensures ∙ c.if-bad-ne0.false)).fills
 
 pub returns : goal.returns
-unfolding argumentsRefusal ownRefusal exerciseRefusal
+unfolding arguments_refusal own_refusal exercise_refusal
 returns c =
-    own-decides c.args.self.now (call.exercise c.args.now c.args.issuer c.args.fill c.args.qty) c.checked-bad.result c.checked-bad.ensures c.if-bad-ne0.false refl c.first_of-5.result
+    own_decides c.args.self.now (call.exercise c.args.now c.args.issuer c.args.fill c.args.qty) c.checked-bad.result c.checked-bad.ensures c.if-bad-ne0.false refl c.first_of-5.result
     (rw (
       c.first_of-5.ensures,
       c.first_of-4.ensures,

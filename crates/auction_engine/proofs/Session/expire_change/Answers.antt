@@ -1,21 +1,21 @@
 -- `auction_engine::Session::expire_change` meets its contract. By the law of refused changes, and by that of accepted ones.
 use mir.Facts.{to_z-of_z}
-use Rattle.auction_engine.specs.Changes.{changeOf}
-use Rattle.auction_engine.proofs.Changing.{refused-change, accepted-change}
+use Rattle.auction_engine.specs.Changes.{change_of}
+use Rattle.auction_engine.proofs.Changing.{refused_change, accepted_change}
 use Rattle.auction_engine.specs.Engine.{effect, events}
-use Rattle.auction_engine.specs.Settlement.{expireEffect, expireEvents}
+use Rattle.auction_engine.specs.Settlement.{expire_effect, expire_events}
 use Rattle.auction_engine.specs.Call as call
 use Rattle.auction_engine.proofs.Session.expire_change.Goals as goal
 
 pub returns-then-refusal-ne0 : goal.returns-then-refusal-ne0
-unfolding changeOf
+unfolding change_of
 returns-then-refusal-ne0 c =
     let number = rw (to_z-of_z c.ranges.now) at c.expire_refusal-refusal.ensures in
-    refused-change c.args.self.now (call.expire c.args.now) 0 _ 0 _ c.expire_refusal-refusal.result number c.unchanged.result c.unchanged.ensures c.if-refusal-ne0.true
+    refused_change c.args.self.now (call.expire c.args.now) 0 _ 0 _ c.expire_refusal-refusal.result number c.unchanged.result c.unchanged.ensures c.if-refusal-ne0.true
 
 pub returns : goal.returns
-unfolding changeOf effect events expireEffect expireEvents
+unfolding change_of effect events expire_effect expire_events
 returns c =
     let number = rw (to_z-of_z c.ranges.now) at c.expire_refusal-refusal.ensures in
-    accepted-change c.args.self.now (call.expire c.args.now) 0 _ 0 _ c.expire_refusal-refusal.result number c.phase_change.result
+    accepted_change c.args.self.now (call.expire c.args.now) 0 _ 0 _ c.expire_refusal-refusal.result number c.phase_change.result
     (rw (c.phase_change.ensures, c.two.ensures)) c.if-refusal-ne0.false

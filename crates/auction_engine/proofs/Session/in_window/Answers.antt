@@ -3,11 +3,11 @@ use mir.Val.{SFits}
 use mir.Syntax.{w64}
 use mir.Facts.{to_z-of_z}
 use borrow.Author.Rules.{rules}
-use Rattle.auction_engine.specs.Call.{inWindow}
+use Rattle.auction_engine.specs.Call.{in_window}
 use Rattle.auction_engine.proofs.Session.in_window.Goals as goal
 
 pub returns : goal.returns
-unfolding inWindow
+unfolding in_window
 returns c =
     let p = c.args.self.now.params in
     let g : SFits w64 p.reveal_end = search rules in

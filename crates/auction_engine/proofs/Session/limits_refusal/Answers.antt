@@ -3,11 +3,11 @@ use mir.Val.{SFits}
 use mir.Syntax.{w64}
 use mir.Facts.{to_z-of_z}
 use borrow.Author.Rules.{rules}
-use Rattle.auction_engine.specs.Call.{limitsRefusal}
+use Rattle.auction_engine.specs.Call.{limits_refusal}
 use Rattle.auction_engine.proofs.Session.limits_refusal.Goals as goal
 
 pub returns : goal.returns
-unfolding limitsRefusal
+unfolding limits_refusal
 returns c =
     let p = c.args.self.now.params in
     let g : SFits w64 p.reveal_end = search rules in

@@ -2,7 +2,7 @@
 use native.Mathlib.Omega.{arith}
 use borrow.Author.Tests.{le-ltb, lt-ltb}
 use Rattle.laws.specs.Checks.{◌then◌, unless}
-use Rattle.laws.proofs.Checking.{then-pass, unless-pass}
+use Rattle.laws.proofs.Checking.{then_pass, unless_pass}
 use Rattle.auction_engine.proofs.Session.order_refusal.Goals as goal
 
 pub returns-then-self-i : goal.returns-then-self-i
@@ -19,4 +19,4 @@ returns c =
       c.unless-other.ensures,
       c.requires.1 (omega (arith, c.requires.0, c.if-self-i.false)),
     )
-    (then-pass _ _ (unless-pass _ 12 (lt-ltb _ _ c.if-self-i.false)))
+    (then_pass _ _ (unless_pass _ 12 (lt-ltb _ _ c.if-self-i.false)))

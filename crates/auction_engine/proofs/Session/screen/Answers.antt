@@ -1,11 +1,11 @@
 -- `auction_engine::Session::screen` meets its contract. What its change is answered as.
 use mathlib.Core.Path.{◌∙◌, ap}
 use mir.Facts.{to_z-of_z}
-use Rattle.auction_engine.specs.Changes.{madeOf}
-use Rattle.auction_engine.proofs.Changing.{made-screen}
+use Rattle.auction_engine.specs.Changes.{made_of}
+use Rattle.auction_engine.proofs.Changing.{made_screen}
 use Rattle.auction_engine.proofs.Session.screen.Goals as goal
 
 pub returns : goal.returns
 returns c =
     let a = c.args in
-    c.made.ensures ∙ (ap (madeOf a.self) (rw (to_z-of_z c.ranges.now) at c.screen_change-c.ensures) ∙ made-screen a.self a.now a.order a.side a.verdict a.has_id a.id)
+    c.made.ensures ∙ (ap (made_of a.self) (rw (to_z-of_z c.ranges.now) at c.screen_change-c.ensures) ∙ made_screen a.self a.now a.order a.side a.verdict a.has_id a.id)

@@ -1,11 +1,11 @@
 -- `auction_engine::Session::skip_fill` meets its contract. What its change is answered as.
 use mathlib.Core.Path.{◌∙◌, ap}
 use mir.Facts.{to_z-of_z}
-use Rattle.auction_engine.specs.Changes.{madeOf}
-use Rattle.auction_engine.proofs.Changing.{made-skip}
+use Rattle.auction_engine.specs.Changes.{made_of}
+use Rattle.auction_engine.proofs.Changing.{made_skip}
 use Rattle.auction_engine.proofs.Session.skip_fill.Goals as goal
 
 pub returns : goal.returns
 returns c =
     let a = c.args in
-    c.made.ensures ∙ (ap (madeOf a.self) (rw (to_z-of_z c.ranges.now) at c.skip_change-c.ensures) ∙ made-skip a.self a.now a.fill a.reason)
+    c.made.ensures ∙ (ap (made_of a.self) (rw (to_z-of_z c.ranges.now) at c.skip_change-c.ensures) ∙ made_skip a.self a.now a.fill a.reason)

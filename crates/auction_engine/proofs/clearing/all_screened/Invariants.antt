@@ -4,12 +4,12 @@ use mathlib.Core.Bool.{Bool, true, not, ◌||◌}
 use mathlib.Core.List.{List}
 use Prim.Native.Nat.{ℕ, ◌≤◌, ◌-◌}
 use Rattle.laws.specs.Search.{every}
-use Rattle.book.specs.Book.{orderIn}
+use Rattle.book.specs.Book.{order_in}
 use Rattle.book.specs.declared.Order.{Order}
 use Rattle.auction_engine.proofs.clearing.all_screened.Given as goal
 
 abbrev pub ready : List Order → ℕ → Bool
-ready orders i = not (orderIn orders i).revealed || (orderIn orders i).screened
+ready orders i = not (order_in orders i).revealed || (order_in orders i).screened
 
 abbrev pub invariant-loop-i : goal.invariant-loop-i
 invariant-loop-i l = (l.i ≤ l.n) × (every (ready l.orders) l.i ≡ true)

@@ -1,9 +1,9 @@
 -- `auction_engine::opening::header_refusal` meets its contract. Check by check.
-use Rattle.auction_engine.specs.Opening.{headerRefusal}
+use Rattle.auction_engine.specs.Opening.{header_refusal}
 use Rattle.auction_engine.proofs.opening.header_refusal.Goals as goal
 
 pub returns : goal.returns
-unfolding headerRefusal
+unfolding header_refusal
 returns c =
     rw (
       c.first_of-3.ensures,

@@ -5,12 +5,12 @@ use mathlib.Core.List.{List}
 use Prim.Native.Nat.{ℕ, ◌≤◌, ◌-◌}
 use Rattle.laws.specs.Lists.{same}
 use Rattle.laws.specs.Search.{some}
-use Rattle.book.specs.Book.{orderIn}
+use Rattle.book.specs.Book.{order_in}
 use Rattle.book.specs.declared.Order.{Order}
 use Rattle.auction_engine.proofs.opening.owner_seen.Given as goal
 
 abbrev pub owns : List Order → (owner : List ℕ) → ℕ → Bool
-owns orders owner i = same (orderIn orders i).owner owner
+owns orders owner i = same (order_in orders i).owner owner
 
 abbrev pub invariant-loop-i : goal.invariant-loop-i
 invariant-loop-i l = (l.i ≤ l.n) × (some (owns l.orders l.owner) l.i ≡ false)

@@ -1,9 +1,9 @@
 -- `auction_engine::opening::row_refusal` meets its contract. Check by check.
-use Rattle.auction_engine.specs.Opening.{rowRefusal}
+use Rattle.auction_engine.specs.Opening.{row_refusal}
 use Rattle.auction_engine.proofs.opening.row_refusal.Goals as goal
 
 pub returns : goal.returns
-unfolding rowRefusal
+unfolding row_refusal
 returns c =
     rw (
       c.first_of-3.ensures,

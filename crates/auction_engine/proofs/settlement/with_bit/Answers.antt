@@ -3,9 +3,9 @@ use Prim.Native.Nat.{◌<◌}
 use native.Mathlib.Omega.{arith}
 use native.Mathlib.Nat.{one-mul, mod-eq_of_lt}
 use lib.Pow.{pow-lt}
-use Rattle.laws.specs.Bits.{withBit}
+use Rattle.laws.specs.Bits.{with_bit}
 use Rattle.auction_engine.proofs.settlement.with_bit.Goals as goal
 
 pub returns : goal.returns
-unfolding withBit
+unfolding with_bit
 returns c = let h : c.args.i < 32 = omega arith in rw (one-mul, mod-eq_of_lt (pow-lt h))

@@ -1,6 +1,6 @@
 -- The theorem of proofs/Refusals.antt.
-use Rattle.course.proofs.Refusals.{refused-by-its-row}
+use Rattle.course.proofs.Refusals.{refused_by_its_row}
 use Rattle.course.proofs.claims.refused_by_its_row.Goals as goal
 
 pub returns : goal.returns
-returns c = refused-by-its-row
+returns c = refused_by_its_row

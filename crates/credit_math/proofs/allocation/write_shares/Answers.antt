@@ -2,8 +2,8 @@
 -- what is left of the places.
 use native.Mathlib.Omega.{arith}
 use borrow.Author.Rules.{rules}
-use Rattle.laws.proofs.Lists.{writing, writing-more}
-use Rattle.credit_math.proofs.Allotting.{low-share, leaving, leaving-fits, leaving-more, left-over, residue-took, shares-written}
+use Rattle.laws.proofs.Lists.{writing, writing_more}
+use Rattle.credit_math.proofs.Allotting.{low_share, leaving, leaving_fits, leaving_more, left_over, residue_took, shares_written}
 use Rattle.credit_math.proofs.allocation.write_shares.Goals as goal
 
 pub loop-i-init : goal.loop-i-init
@@ -11,14 +11,14 @@ loop-i-init c = (search rules, leaving c.requires.0, writing c.requires.1)
 
 pub overflow_sub-left : goal.overflow_sub-left
 overflow_sub-left c =
-    leaving-fits c.requires.0 _ c.loop-i.invariant.1 c.loop-i-test.true (low-share c.requires.0 _ _ c.floor_share-share.ensures.0 (c.type_inv.qtys _).fits)
+    leaving_fits c.requires.0 _ c.loop-i.invariant.1 c.loop-i-test.true (low_share c.requires.0 _ _ c.floor_share-share.ensures.0 (c.type_inv.qtys _).fits)
 
 pub loop-i-preserved : goal.loop-i-preserved
 loop-i-preserved c =
-    let share = low-share c.requires.0 _ _ c.floor_share-share.ensures.0 (c.type_inv.qtys _).fits in
-    (omega arith, leaving-more c.requires.0 _ c.loop-i.invariant.1 c.loop-i-test.true share, writing-more _ c.loop-i.invariant.2 c.loop-i-test.true share)
+    let share = low_share c.requires.0 _ _ c.floor_share-share.ensures.0 (c.type_inv.qtys _).fits in
+    (omega arith, leaving_more c.requires.0 _ c.loop-i.invariant.1 c.loop-i-test.true share, writing_more _ c.loop-i.invariant.2 c.loop-i-test.true share)
 
 pub returns : goal.returns
 returns c =
-    let is = left-over c.requires.0 c.loop-i.invariant.1 c.loop-i.invariant.0 c.loop-i-test.false in
-    (shares-written c.requires.0 c.loop-i.invariant.2 c.loop-i-test.false, is, residue-took c.requires.0 is)
+    let is = left_over c.requires.0 c.loop-i.invariant.1 c.loop-i.invariant.0 c.loop-i-test.false in
+    (shares_written c.requires.0 c.loop-i.invariant.2 c.loop-i-test.false, is, residue_took c.requires.0 is)

@@ -1,6 +1,6 @@
 -- The theorem of proofs/ProRataTheorems.antt.
-use Rattle.credit_math.proofs.ProRataTheorems.{share-is-right}
+use Rattle.credit_math.proofs.ProRataTheorems.{share_is_right}
 use Rattle.credit_math.proofs.claims.share_is_right.Goals as goal
 
 pub returns : goal.returns
-returns c = share-is-right
+returns c = share_is_right

@@ -1,6 +1,6 @@
 -- The theorem of proofs/Covers.antt.
-use Rattle.escrow.proofs.Covers.{not-refused-covers}
+use Rattle.escrow.proofs.Covers.{not_refused_covers}
 use Rattle.escrow.proofs.claims.not_refused_covers.Goals as goal
 
 pub returns : goal.returns
-returns c = not-refused-covers
+returns c = not_refused_covers

@@ -5,13 +5,13 @@ use Prim.Native.Nat.{◌-◌, ◌≤◌}
 use Rattle.laws.specs.Sums.{only}
 use Rattle.laws.proofs.Widths.{SummingFrom}
 use Rattle.wide.specs.Value.{value}
-use Rattle.book.specs.Book.{orderIn, isBuy}
-use Rattle.investors.specs.Exclusion.{isOther}
+use Rattle.book.specs.Book.{order_in, is_buy}
+use Rattle.investors.specs.Exclusion.{is_other}
 use Rattle.investors.proofs.exclusion.cash_of.Given as goal
 
 abbrev pub invariant-loop-j : goal.invariant-loop-j
 invariant-loop-j l =
-    (l.j ≤ l.n) × SummingFrom 64 (orderIn l.orders l.index).escrowed (λ k. only (isOther l.orders l.n l.index l.id k && isBuy (orderIn l.orders k)) (orderIn l.orders k).escrowed) l.j (value l.sum)
+    (l.j ≤ l.n) × SummingFrom 64 (order_in l.orders l.index).escrowed (λ k. only (is_other l.orders l.n l.index l.id k && is_buy (order_in l.orders k)) (order_in l.orders k).escrowed) l.j (value l.sum)
 
 abbrev pub decreases-loop-j : goal.decreases-loop-j
 decreases-loop-j l = l.n - l.j

@@ -2,11 +2,11 @@
 use mathlib.Core.Path.{◌≡◌}
 use Prim.Native.Nat.{◌-◌, ◌≤◌}
 use Rattle.laws.specs.Sums.{count}
-use Rattle.investors.specs.Places.{placeIn, isNew}
+use Rattle.investors.specs.Places.{place_in, is_new}
 use Rattle.investors.proofs.participants.count_new.Given as goal
 
 abbrev pub invariant-loop-k : goal.invariant-loop-k
-invariant-loop-k l = (l.k ≤ l.n) × (l.new ≡ count (isNew (placeIn l.places)) l.k)
+invariant-loop-k l = (l.k ≤ l.n) × (l.new ≡ count (is_new (place_in l.places)) l.k)
 
 abbrev pub decreases-loop-k : goal.decreases-loop-k
 decreases-loop-k l = l.n - l.k

@@ -2,12 +2,12 @@
 use native.Mathlib.Omega.{arith}
 use lib.ListN.{length-set}
 use borrow.Author.Rules.{rules}
-use Rattle.investors.proofs.Placing.{places-none, places-more}
+use Rattle.investors.proofs.Placing.{places_none, places_more}
 use Rattle.investors.proofs.participants.places_of.Goals as goal
 
 pub loop-k-init : goal.loop-k-init
-loop-k-init c = (search rules, search rules, places-none _ _ _ _)
+loop-k-init c = (search rules, search rules, places_none _ _ _ _)
 
 pub loop-k-preserved : goal.loop-k-preserved
 loop-k-preserved c =
-    let l = c.loop-k.invariant in (omega arith, simp length-set l.1, places-more _ _ _ _ _ _ _ l.2 (omega arith) c.place_of.ensures)
+    let l = c.loop-k.invariant in (omega arith, simp length-set l.1, places_more _ _ _ _ _ _ _ l.2 (omega arith) c.place_of.ensures)

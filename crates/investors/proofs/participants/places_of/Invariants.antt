@@ -2,12 +2,12 @@
 use mathlib.Core.Path.{◌≡◌}
 use Prim.Native.Nat.{◌-◌, ◌≤◌, ◌*◌}
 use lib.ListN.{length}
-use Rattle.book.specs.Limits.{maxFills}
-use Rattle.investors.specs.Places.{placesOf}
+use Rattle.book.specs.Limits.{max_fills}
+use Rattle.investors.specs.Places.{places_of}
 use Rattle.investors.proofs.participants.places_of.Given as goal
 
 abbrev pub invariant-loop-k : goal.invariant-loop-k
-invariant-loop-k l = (l.k ≤ 2 * l.m) × (length l.out ≡ 2 * maxFills) × (l.out ≡ placesOf l.orders l.n l.fills l.skipped l.k)
+invariant-loop-k l = (l.k ≤ 2 * l.m) × (length l.out ≡ 2 * max_fills) × (l.out ≡ places_of l.orders l.n l.fills l.skipped l.k)
 
 abbrev pub decreases-loop-k : goal.decreases-loop-k
 decreases-loop-k l = 2 * l.m - l.k

@@ -2,17 +2,17 @@
 use mathlib.Core.Path.{sym, ◌∙◌}
 use native.Mathlib.Omega.{arith}
 use borrow.Author.Rules.{rules}
-use Rattle.laws.proofs.Search.{some-start, some-more, some-at}
-use Rattle.investors.specs.Places.{takesPartAt}
+use Rattle.laws.proofs.Search.{some_start, some_more, some_at}
+use Rattle.investors.specs.Places.{takes_part_at}
 use Rattle.investors.proofs.participants.seen_before.Goals as goal
 
 pub loop-j-init : goal.loop-j-init
-loop-j-init c = (search rules, some-start _)
+loop-j-init c = (search rules, some_start _)
 
 pub returns-then-takes_part_at : goal.returns-then-takes_part_at
-unfolding takesPartAt
-returns-then-takes_part_at c = some-at _ _ _ c.loop-j-test.true (sym c.takes_part_at.ensures ∙ c.if-takes_part_at.true)
+unfolding takes_part_at
+returns-then-takes_part_at c = some_at _ _ _ c.loop-j-test.true (sym c.takes_part_at.ensures ∙ c.if-takes_part_at.true)
 
 pub loop-j-preserved : goal.loop-j-preserved
-unfolding takesPartAt
-loop-j-preserved c = (omega arith, some-more _ _ c.loop-j.invariant.1 (sym c.takes_part_at.ensures ∙ c.if-takes_part_at.false))
+unfolding takes_part_at
+loop-j-preserved c = (omega arith, some_more _ _ c.loop-j.invariant.1 (sym c.takes_part_at.ensures ∙ c.if-takes_part_at.false))

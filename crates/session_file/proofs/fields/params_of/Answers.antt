@@ -1,8 +1,8 @@
 -- `session_file::fields::paramsOf` meets its contract, field by field.
 use Rattle.std.proofs.Common.{rules}
-use Rattle.session_file.specs.Fields.{paramsOf}
+use Rattle.session_file.specs.Fields.{params_of}
 use Rattle.session_file.proofs.fields.params_of.Goals as goal
 
 pub returns : goal.returns
-unfolding paramsOf
+unfolding params_of
 returns c = search rules

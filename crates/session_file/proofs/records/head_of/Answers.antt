@@ -1,10 +1,10 @@
 -- `session_file::records::head_of` meets its contract, check by check.
-use Rattle.session_file.specs.Reads.{readingRefusal}
-use Rattle.session_file.proofs.Marks.{flags-held}
+use Rattle.session_file.specs.Reads.{reading_refusal}
+use Rattle.session_file.proofs.Marks.{flags_held}
 use Rattle.session_file.proofs.records.head_of.Goals as goal
 
 pub returns : goal.returns
-unfolding readingRefusal
+unfolding reading_refusal
 returns c = rw (
   c.first_of-refusal.ensures,
   c.first_of-3.ensures,
@@ -18,7 +18,7 @@ returns c = rw (
   c.unless-known.ensures,
   c.unless-whole.ensures,
   c.shape_of-s.ensures,
-  flags-held,
+  flags_held,
   c.mark_of-mark.ensures,
   c.u16_at.ensures,
 )

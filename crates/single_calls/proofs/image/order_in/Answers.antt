@@ -1,7 +1,7 @@
 -- `single_calls::image::orderIn` meets its contract, field by field.
-use Rattle.single_calls.specs.Image.{orderIn}
+use Rattle.single_calls.specs.Image.{order_in}
 use Rattle.single_calls.proofs.image.order_in.Goals as goal
 
 pub returns : goal.returns
-unfolding orderIn
+unfolding order_in
 returns c = cc
