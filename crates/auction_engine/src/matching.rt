@@ -3,7 +3,7 @@ ghost use Rattle.std.specs.Prelude.{◌≡◌, cond, not, ◌+◌, ◌<◌, ◌�
 ghost use Rattle.laws.specs.Sums.{only};
 ghost use Rattle.laws.specs.Search.{every};
 ghost use Rattle.credit_math.specs.Limits.{max_orders};
-ghost use Rattle.book.specs.Limits.{max_fills};
+ghost use Rattle.book.specs.Limits as limits;
 ghost use Rattle.book.specs.Book.{order_in};
 ghost use Rattle.events.specs.Events.{line_of};
 ghost use Rattle.events.specs.declared.Event.TheVariants.{FillAllocated};
@@ -71,7 +71,7 @@ impl Session {
 
     // At most n fills, each written in place: a session is too large to copy for each. 18 where one more is due and no place free.
     fn filled_by(self, n: u8) -> Answer
-        requires { (self.order_count ≤ max_orders) × (self.fill_count ≤ max_fills) }
+        requires { (self.order_count ≤ max_orders) × (self.fill_count ≤ limits.max_fills) }
         ensures { result ≡ filled_by self n }
     {
         let mut session = self;
@@ -203,7 +203,7 @@ fn fill_of(buy: Order, sell: Order, qty: u64) -> Fill
 
 // The line of a fill at a place, between two orders.
 fn fill_line(at: usize, b: usize, a: usize, qty: u64) -> Line
-    requires { (at < max_fills) × (b < max_orders) × (a < max_orders) }
+    requires { (at < limits.max_fills) × (b < max_orders) × (a < max_orders) }
     ensures { result ≡ line_of (FillAllocated at b a qty) }
 {
     let event = Event::FillAllocated {

@@ -1,4 +1,4 @@
--- `credit_math::allocation::sumOf` meets its contract. The loop's invariant: the sum of the quantities passed, which fits two words. The measure is what is left of the places.
+-- `credit_math::allocation::sum_of` meets its contract. The loop's invariant: the sum of the quantities passed, which fits two words. The measure is what is left of the places.
 use Prim.Native.Nat.{◌-◌, ◌≤◌}
 use lib.ListN.{length, get_or}
 use Rattle.wide.specs.Value.{value}

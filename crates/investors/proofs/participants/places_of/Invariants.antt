@@ -1,4 +1,4 @@
--- `investors::participants::placesOf` meets its contract. The loop's invariant: the first k places are stored. The measure is what is left of the places.
+-- `investors::participants::places_of` meets its contract. The loop's invariant: the first k places are stored. The measure is what is left of the places.
 use mathlib.Core.Path.{◌≡◌}
 use Prim.Native.Nat.{◌-◌, ◌≤◌, ◌*◌}
 use lib.ListN.{length}

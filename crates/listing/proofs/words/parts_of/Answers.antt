@@ -1,4 +1,4 @@
--- `listing::words::partsOf` meets its contract, event by event.
+-- `listing::words::parts_of` meets its contract, event by event.
 use Rattle.listing.specs.Parts.{parts_of}
 use Rattle.listing.proofs.words.parts_of.Goals as goal
 

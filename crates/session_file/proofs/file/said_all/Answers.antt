@@ -1,4 +1,4 @@
--- `session_file::file::saidAll` meets its contract, by the refusal.
+-- `session_file::file::said_all` meets its contract, by the refusal.
 use Rattle.std.proofs.Common.{eq-eqb, ne_eqb}
 use Rattle.events.proofs.Packed.{push_first}
 use Rattle.session_file.specs.Steps.{said_all}

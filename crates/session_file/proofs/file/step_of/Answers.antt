@@ -1,4 +1,4 @@
--- `session_file::file::stepOf` meets its contract, by what ends the file early and by the kind.
+-- `session_file::file::step_of` meets its contract, by what ends the file early and by the kind.
 use Rattle.std.proofs.Common.{eq-eqb, ne_eqb}
 use Rattle.session_file.specs.Steps.{step_of}
 use Rattle.session_file.proofs.file.step_of.Goals as goal

@@ -1,4 +1,4 @@
--- `session_file::records::markOf` meets its contract, arm by arm.
+-- `session_file::records::mark_of` meets its contract, arm by arm.
 use Rattle.std.proofs.Common.{sym, ap, rules}
 use Rattle.session_file.specs.Marks.{mark_of}
 use Rattle.session_file.proofs.Marks.{mark_none}

@@ -1,4 +1,4 @@
--- `session_file::records::shapeOf` meets its contract, arm by arm.
+-- `session_file::records::shape_of` meets its contract, arm by arm.
 use Rattle.session_file.specs.Marks.{shape_of}
 use Rattle.session_file.proofs.records.shape_of.Goals as goal
 

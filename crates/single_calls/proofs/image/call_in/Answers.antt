@@ -1,4 +1,4 @@
--- `single_calls::image::callIn` meets its contract, field by field.
+-- `single_calls::image::call_in` meets its contract, field by field.
 use Rattle.std.proofs.Common.{rules, SFits, w64, to_z-of_z}
 use Rattle.single_calls.specs.Image.{call_in}
 use Rattle.single_calls.proofs.image.call_in.Goals as goal

@@ -1,4 +1,4 @@
--- `single_calls::image::orderIn` meets its contract, field by field.
+-- `single_calls::image::order_in` meets its contract, field by field.
 use Rattle.single_calls.specs.Image.{order_in}
 use Rattle.single_calls.proofs.image.order_in.Goals as goal
 
