@@ -1,5 +1,5 @@
 -- Calls, and what is checked of any call before its own row.
-use Rattle.std.specs.Prelude.{Bool, cond, not, ◌&&◌, ◌||◌, List, ℕ, ltb, leb, eqb, ℤ}
+use Rattle.std.specs.Prelude.{Bool, if◌then◌else◌, not, ◌&&◌, ◌||◌, List, ℕ, nat_lt, nat_le, ◌==◌, ℤ}
 use Rattle.std.specs.Int.Signed.{lt_z, le_z}
 use Rattle.laws.specs.Search.{every}
 use Rattle.laws.specs.Lists.{same}
@@ -55,41 +55,41 @@ expire_kind = 8
 -- 'Screen and clear need 0, 1 or 7; allocate 2; exercise and close 3; settle, skip and finish 4; expire any but 5 and 6'
 unfoldable pub admits : (phase kind : ℕ) → Bool
 admits phase kind =
-    cond (leb kind clear_kind) (eqb phase 0 || eqb phase 1 || eqb phase 7)
-    (cond (eqb kind allocate_kind) (eqb phase 2)
-    (cond (leb kind close_kind) (eqb phase 3)
-    (cond (leb kind finish_kind) (eqb phase 4)
-    (eqb kind expire_kind && not (eqb phase 5 || eqb phase 6)))))
+    if nat_le kind clear_kind then phase == 0 || phase == 1 || phase == 7
+    else (if kind == allocate_kind then phase == 2
+    else (if nat_le kind close_kind then phase == 3
+    else (if nat_le kind finish_kind then phase == 4
+    else kind == expire_kind && not (phase == 5 || phase == 6))))
 
 -- 'Library call, any' | 9 over 16 orders or 24 fills, band above 10,000, forced with a reserve, reveal_end + window outside 64 bits
 unfoldable pub limits_refusal : Session → ℕ
 limits_refusal s =
-    unless (leb s.order_count max_orders) 9
-    then unless (leb s.fill_count max_fills) 9
-    then unless (leb s.given.band_bps max_band) 9
-    then unless (not (s.params.forced && ltb 0 s.given.reserve)) 9
+    unless (nat_le s.order_count max_orders) 9
+    then unless (nat_le s.fill_count max_fills) 9
+    then unless (nat_le s.given.band_bps max_band) 9
+    then unless (not (s.params.forced && nat_lt 0 s.given.reserve)) 9
     then unless (sum_fits s.params.reveal_end s.params.rofr_window) 9
 
 -- 'then 4 a session field .. outside the values that the record list names for it, or a phase above 7'
 unfoldable pub fields_refusal : Session → ℕ
 fields_refusal s =
-    unless (leb s.phase 7) 4
-    then unless (leb s.given.policy 3) 4
-    then unless (every (λ i. leb (order_at s i).side 1) s.order_count) 4
+    unless (nat_le s.phase 7) 4
+    then unless (nat_le s.given.policy 3) 4
+    then unless (every (λ i. nat_le (order_at s i).side 1) s.order_count) 4
 
 -- 'or argument': sides and verdicts in their range; 'Without has-id the id is zeros. A passed buy has an id'
 unfoldable pub arguments_refusal : Call → ℕ
 arguments_refusal (screen now i side verdict has_id id) =
-    unless (leb side 1) 4
-    then unless (leb verdict 6) 4
+    unless (nat_le side 1) 4
+    then unless (nat_le verdict 6) 4
     then unless (has_id || same id no_investor) 4
-    then unless (has_id || not (eqb side buy_side && eqb verdict 0)) 4
+    then unless (has_id || not (side == buy_side && verdict == 0)) 4
 arguments_refusal (clear now) = 0
 arguments_refusal (allocate now n) = 0
 arguments_refusal (exercise now issuer i q) = 0
 arguments_refusal (close now caller) = 0
 arguments_refusal (settle i) = 0
-arguments_refusal (skip now i reason) = unless (leb reason 6) 4
+arguments_refusal (skip now i reason) = unless (nat_le reason 6) 4
 arguments_refusal (finish now) = 0
 arguments_refusal (expire now) = 0
 

@@ -1,6 +1,6 @@
 -- What a call writes that makes no fill and gives no lot: some numbers, one order and one fill. proofs/ shows that its change, written, is its
 -- answer in Engine.antt.
-use Rattle.std.specs.Prelude.{Bool, false, cond, not, ◌&&◌, [], ◌∷◌, ℕ, ltb, leb, eqb, set}
+use Rattle.std.specs.Prelude.{Bool, false, if◌then◌else◌, not, ◌&&◌, [], ◌∷◌, ℕ, nat_lt, nat_le, ◌==◌, set}
 use Rattle.std.specs.Int.Signed.{lt_z}
 use Rattle.laws.specs.Sums.{only}
 use Rattle.laws.specs.Checks.{◌then◌}
@@ -27,7 +27,7 @@ use Rattle.auction_engine.specs.Engine.{refusal, effect, events, call_of}
 
 -- a place of an array with so many, or the first
 abbrev pub place_of : (places i : ℕ) → ℕ
-place_of places i = cond (ltb i places) i 0
+place_of places i = if nat_lt i places then i else 0
 
 -- the numbers of a session t, order o at place i, fill f at place j, and what is said
 abbrev pub writing : Session → (undecided : Bool) (i : ℕ) → Order → (j : ℕ) → Fill → (refusal : ℕ) → EventPair → Change
@@ -56,11 +56,11 @@ unchanged s refusal = keeping s refusal (event_pair [])
 
 -- a call that changes more: refused by that number, or undecided where it is 0
 abbrev pub early : Session → (refusal : ℕ) → Change
-early s refusal = writing s (eqb refusal 0) 0 (order_at s 0) 0 (fill_at s 0) refusal (event_pair [])
+early s refusal = writing s (refusal == 0) 0 (order_at s 0) 0 (fill_at s 0) refusal (event_pair [])
 
 -- a call whose effect writes order o at place i and fill f at place j, and some numbers
 abbrev pub change_at : Session → Call → (i : ℕ) → Order → (j : ℕ) → Fill → Change
-change_at s c i o j f = cond (eqb (refusal s c) 0) (writing (effect s c) false i o j f 0 (event_pair (events s c))) (unchanged s (refusal s c))
+change_at s c i o j f = if refusal s c == 0 then writing (effect s c) false i o j f 0 (event_pair (events s c)) else unchanged s (refusal s c)
 
 -- a call whose effect writes numbers alone
 abbrev pub change_of_phase : Session → Call → Change
@@ -81,17 +81,18 @@ change_of s (expire now) = change_of_phase s (expire now)
 
 -- the same of a call record: a kind above 8 is an argument outside its values
 unfoldable pub change_for : Session → CallRecord → Change
-change_for s r = cond (leb r.kind expire_kind) (change_of s (call_of r)) (unchanged s (limits_refusal s then 4))
+change_for s r = if nat_le r.kind expire_kind then change_of s (call_of r) else unchanged s (limits_refusal s then 4)
 
 -- the change of an `OR` record: one order more, and its line
 unfoldable pub order_change : Session → Cover → Row → Change
 order_change s cover row =
-    cond (eqb (order_refusal s cover row) 0) (writing (with_order s row) false s.order_count (listed row) 0 (fill_at s 0) 0 (event_pair (Ordered s.order_count ∷ [])))
-    (unchanged s (order_refusal s cover row))
+    if order_refusal s cover row == 0
+    then writing (with_order s row) false s.order_count (listed row) 0 (fill_at s 0) 0 (event_pair (Ordered s.order_count ∷ []))
+    else unchanged s (order_refusal s cover row)
 
 -- what an order changes, or else a call record
 unfoldable pub record_change : Session → (is_order : Bool) → Cover → Row → CallRecord → Change
-record_change s is_order cover row r = cond is_order (order_change s cover row) (change_for s r)
+record_change s is_order cover row r = if is_order then order_change s cover row else change_for s r
 
 -- a session with a change written
 abbrev pub changed : Session → Change → Session

@@ -1,5 +1,5 @@
 -- Clear.
-use Rattle.std.specs.Prelude.{cond, not, ◌||◌, List, [], ◌∷◌, ℕ, zero, suc, eqb, ℤ, get_or, set}
+use Rattle.std.specs.Prelude.{if◌then◌else◌, not, ◌||◌, List, [], ◌∷◌, ℕ, zero, suc, ◌==◌, ℤ, slice_index, set}
 use Rattle.laws.specs.Search.{every}
 use Rattle.laws.specs.Checks.{unless, ◌then◌}
 use Rattle.book.specs.Book.{order_in, reorder}
@@ -34,18 +34,18 @@ with_lot o a = reorder o a a o.screened o.eligible o.investor_id
 -- the first n orders with their lots
 unfoldable pub with_lots : List Order → List ℕ → ℕ → List Order
 with_lots orders lots zero = orders
-with_lots orders lots (suc n) = set (with_lots orders lots n) n (with_lot (order_in orders n) (get_or lots n 0))
+with_lots orders lots (suc n) = set (with_lots orders lots n) n (with_lot (order_in orders n) (slice_index lots n))
 
 -- a price: its figures and lots, in phase Allocating; a failure: phase Failed
 unfoldable pub cleared_by : Session → Outcome → Session
 cleared_by s found =
-    cond (eqb found.failed 0)
-    (remake s
+    if found.failed == 0
+    then remake s
     (record { clear_price = found.price; cleared_volume = found.volume; reserve_price = floor_of s.params s.given; reference_mark = s.given.reference })
     allocating s.rofr_qty s.fills_settled s.skipped_fills
     (with_lots s.orders found.lots s.order_count)
-    s.fills s.fill_count)
-    (at_phase s failed)
+    s.fills s.fill_count
+    else at_phase s failed
 
 abbrev pub clear_effect : Session → Session
 clear_effect s = cleared_by s (outcome s)
@@ -53,9 +53,9 @@ clear_effect s = cleared_by s (outcome s)
 -- `clear PRICE VOLUME RESERVE REFERENCE` or `failed R`, then the change of phase
 unfoldable pub clear_lines : Session → Outcome → List Event
 clear_lines s found =
-    cond (eqb found.failed 0)
-    (event.Cleared found.price found.volume (floor_of s.params s.given) s.given.reference ∷ event.PhaseChanged s.phase allocating ∷ [])
-    (event.SessionFailed found.failed ∷ event.PhaseChanged s.phase failed ∷ [])
+    if found.failed == 0
+    then event.Cleared found.price found.volume (floor_of s.params s.given) s.given.reference ∷ event.PhaseChanged s.phase allocating ∷ []
+    else event.SessionFailed found.failed ∷ event.PhaseChanged s.phase failed ∷ []
 
 abbrev pub clear_events : Session → List Event
 clear_events s = clear_lines s (outcome s)

@@ -1,5 +1,5 @@
 -- What any call answers: its refusal, the session that it hands back, its events.
-use Rattle.std.specs.Prelude.{cond, List, [], ℕ, eqb, leb}
+use Rattle.std.specs.Prelude.{if◌then◌else◌, List, [], ℕ, ◌==◌, nat_le}
 use Rattle.laws.specs.Checks.{unless, ◌then◌}
 use Rattle.events.specs.Events.{packed}
 use Rattle.events.specs.declared.Event.{Event}
@@ -60,27 +60,27 @@ refused_by s number = record { refusal = number; session = s; events = packed []
 -- what a call answers
 unfoldable pub answer : Session → Call → Answer
 answer s c =
-    cond (eqb (refusal s c) 0)
-    (record { refusal = 0; session = effect s c; events = packed (events s c) })
-    (refused_by s (refusal s c))
+    if refusal s c == 0
+    then record { refusal = 0; session = effect s c; events = packed (events s c) }
+    else refused_by s (refusal s c)
 
 -- the call that a record says, by its kind
 unfoldable pub call_of : CallRecord → Call
 call_of r =
-    cond (eqb r.kind screen_kind) (screen r.now r.order r.side r.verdict r.has_id r.id)
-    (cond (eqb r.kind clear_kind) (clear r.now)
-    (cond (eqb r.kind allocate_kind) (allocate r.now r.max_fills)
-    (cond (eqb r.kind exercise_kind) (exercise r.now r.wallet r.fill r.qty)
-    (cond (eqb r.kind close_kind) (close r.now r.wallet)
-    (cond (eqb r.kind settle_kind) (settle r.fill)
-    (cond (eqb r.kind skip_kind) (skip r.now r.fill r.reason)
-    (cond (eqb r.kind finish_kind) (finish r.now)
-    (expire r.now))))))))
+    if r.kind == screen_kind then screen r.now r.order r.side r.verdict r.has_id r.id
+    else (if r.kind == clear_kind then clear r.now
+    else (if r.kind == allocate_kind then allocate r.now r.max_fills
+    else (if r.kind == exercise_kind then exercise r.now r.wallet r.fill r.qty
+    else (if r.kind == close_kind then close r.now r.wallet
+    else (if r.kind == settle_kind then settle r.fill
+    else (if r.kind == skip_kind then skip r.now r.fill r.reason
+    else (if r.kind == finish_kind then finish r.now
+    else expire r.now)))))))
 
 -- 4 for an argument of a call record: a kind above 8 is outside its values too
 unfoldable pub record_arguments : CallRecord → ℕ
-record_arguments r = unless (leb r.kind expire_kind) 4 then arguments_refusal (call_of r)
+record_arguments r = unless (nat_le r.kind expire_kind) 4 then arguments_refusal (call_of r)
 
 -- what a call record answers; one of a kind above 8 is refused as any library call is: 9, then 4
 unfoldable pub applied : Session → CallRecord → Answer
-applied s r = cond (leb r.kind expire_kind) (answer s (call_of r)) (refused_by s (limits_refusal s then 4))
+applied s r = if nat_le r.kind expire_kind then answer s (call_of r) else refused_by s (limits_refusal s then 4)

@@ -1,5 +1,5 @@
 -- Allocate: the first buy order with something left and the first such sell order are paired, at most as often as the call allows.
-use Rattle.std.specs.Prelude.{Bool, false, cond, not, ◌&&◌, ◌||◌, List, [], ◌∷◌, ◌++◌, ℕ, zero, suc, ◌+◌, ◌-◌, min, ltb, leb, eqb, set}
+use Rattle.std.specs.Prelude.{Bool, false, if◌then◌else◌, not, ◌&&◌, ◌||◌, List, [], ◌∷◌, ◌++◌, ℕ, zero, suc, ◌+◌, ◌-◌, min, nat_lt, nat_le, ◌==◌, set}
 use Rattle.laws.specs.Search.{first, every}
 use Rattle.laws.specs.Lists.{same}
 use Rattle.laws.specs.Checks.{unless, ◌then◌}
@@ -19,7 +19,7 @@ less_left o q = reorder o o.alloc (o.alloc_left - q) o.screened o.eligible o.inv
 
 -- an order of that side with something left
 abbrev pub due_on : (side : ℕ) → Order → Bool
-due_on side o = eqb o.side side && ltb 0 o.alloc_left
+due_on side o = o.side == side && nat_lt 0 o.alloc_left
 
 -- the first such order among the first n, or n
 abbrev pub first_due : List Order → (n side : ℕ) → ℕ
@@ -36,7 +36,7 @@ sell_at s = due_at s sell_side
 
 -- a fill is due
 unfoldable pub due : Session → Bool
-due s = ltb (buy_at s) s.order_count && ltb (sell_at s) s.order_count
+due s = nat_lt (buy_at s) s.order_count && nat_lt (sell_at s) s.order_count
 
 -- the quantity of the fill that is due: the smaller of what the two have left
 abbrev pub due_qty : Session → ℕ
@@ -56,7 +56,7 @@ pair s b a q =
 
 -- one fill, where one is due
 unfoldable pub one : Session → Session
-one s = cond (due s) (pair s (buy_at s) (sell_at s) (due_qty s)) s
+one s = if due s then pair s (buy_at s) (sell_at s) (due_qty s) else s
 
 -- at most n fills
 unfoldable pub after_fills : ℕ → Session → Session
@@ -66,7 +66,7 @@ after_fills (suc n) s = after_fills n (one s)
 -- 'a fill due with 24 held, the call's own counted', within n fills
 unfoldable pub overfull : ℕ → Session → Bool
 overfull zero s = false
-overfull (suc n) s = (due s && leb max_fills s.fill_count) || overfull n (one s)
+overfull (suc n) s = (due s && nat_le max_fills s.fill_count) || overfull n (one s)
 
 -- what any call checks, and the phase
 abbrev pub allocate_checks : Session → ℕ
@@ -78,14 +78,14 @@ allocate_refusal s n = unless (admits s.phase allocate_kind) 10 then unless (not
 
 -- every lot is paired
 unfoldable pub done : Session → Bool
-done s = every (λ i. eqb (left s i) 0) s.order_count
+done s = every (λ i. left s i == 0) s.order_count
 
 -- the phase after the last fill: IssuerRofr with an authority, else Settling
 unfoldable pub phase_after : Session → ℕ
-phase_after s = cond (same s.params.rofr_authority no_wallet) settling issuer_rofr
+phase_after s = if same s.params.rofr_authority no_wallet then settling else issuer_rofr
 
 abbrev pub matched : Session → Session
-matched s = cond (done s) (at_phase s (phase_after s)) s
+matched s = if done s then at_phase s (phase_after s) else s
 
 unfoldable pub allocate_effect : Session → (n : ℕ) → Session
 allocate_effect s n = matched (after_fills n s)
@@ -93,8 +93,8 @@ allocate_effect s n = matched (after_fills n s)
 -- `fill K B S QTY` for each of at most n fills
 unfoldable pub fill_events : ℕ → Session → List Event
 fill_events zero s = []
-fill_events (suc n) s = cond (due s) (FillAllocated s.fill_count (buy_at s) (sell_at s) (due_qty s) ∷ fill_events n (one s)) []
+fill_events (suc n) s = if due s then FillAllocated s.fill_count (buy_at s) (sell_at s) (due_qty s) ∷ fill_events n (one s) else []
 
 -- the fills, then the change of phase where every lot is paired
 unfoldable pub allocate_events : Session → (n : ℕ) → List Event
-allocate_events s n = fill_events n s ++ cond (done (after_fills n s)) (PhaseChanged s.phase (phase_after s) ∷ []) []
+allocate_events s n = fill_events n s ++ (if done (after_fills n s) then PhaseChanged s.phase (phase_after s) ∷ [] else [])

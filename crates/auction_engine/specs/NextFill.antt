@@ -1,5 +1,5 @@
 -- What the private functions of an allocate keep on the way. proofs/ shows that they come to Matching.antt.
-use Rattle.std.specs.Prelude.{cond, ◌&&◌, List, ℕ, ltb}
+use Rattle.std.specs.Prelude.{if◌then◌else◌, ◌&&◌, List, ℕ, nat_lt}
 use Rattle.book.specs.Book.{buy_side, sell_side}
 use Rattle.book.specs.declared.Order.{Order}
 use Rattle.events.specs.Events.{packed}
@@ -14,8 +14,8 @@ abbrev pub next_pair : List Order → ℕ → Pair
 next_pair os n =
     let b : ℕ = first_due os n buy_side in
     let a : ℕ = first_due os n sell_side in
-    record { due = ltb b n && ltb a n; buy = b; sell = a }
+    record { due = nat_lt b n && nat_lt a n; buy = b; sell = a }
 
 -- at most n fills; 18, and the session as it was, where one more fill is due and no place is free
 abbrev pub filled_by : Session → (n : ℕ) → Answer
-filled_by s n = cond (overfull n s) (refused_by s 18) (record { refusal = 0; session = after_fills n s; events = packed (fill_events n s) })
+filled_by s n = if overfull n s then refused_by s 18 else record { refusal = 0; session = after_fills n s; events = packed (fill_events n s) }

@@ -1,5 +1,5 @@
 -- The session that a file opens: the rows `SH`, `SI` and `OR`, over values. The reader's contract cites these.
-use Rattle.std.specs.Prelude.{◌≡◌, cond, not, ◌&&◌, ◌||◌, List, [], ◌∷◌, ℕ, ◌+◌, ltb, leb, eqb, pos, ◌+ℤ◌, set}
+use Rattle.std.specs.Prelude.{◌≡◌, if◌then◌else◌, not, ◌&&◌, ◌||◌, List, [], ◌∷◌, ℕ, ◌+◌, nat_lt, nat_le, ◌==◌, pos, ◌+ℤ◌, set}
 use Rattle.std.specs.Int.Signed.{lt_z, le_z}
 use Rattle.laws.specs.Search.{some}
 use Rattle.laws.specs.Lists.{same}
@@ -21,31 +21,31 @@ use Rattle.auction_engine.specs.Session.{order_at, rewritten, fresh}
 -- then 6 max_cash 0
 unfoldable pub header_refusal : Params → Given → Cover → ℕ
 header_refusal p g cover =
-    unless (not (p.forced && ltb 0 g.reserve)) 4
-    then unless (leb g.policy 3) 4
-    then unless (leb g.band_bps max_band) 4
+    unless (not (p.forced && nat_lt 0 g.reserve)) 4
+    then unless (nat_le g.policy 3) 4
+    then unless (nat_le g.band_bps max_band) 4
     then decimals_refusal cover
     then unless (lt_z p.reveal_end p.settle_deadline) 5
     then unless (le_z (pos 0) p.rofr_window) 5
     then unless (not (same p.rofr_authority no_wallet) || le_z p.rofr_window (pos 0)) 5
     then unless (sum_fits p.reveal_end p.rofr_window) 5
     then unless (lt_z (p.reveal_end +ℤ p.rofr_window) p.settle_deadline) 5
-    then unless (leb 2 p.min_reveals) 5
-    then unless (ltb 0 p.max_cash) 6
+    then unless (nat_le 2 p.min_reveals) 5
+    then unless (nat_lt 0 p.max_cash) 6
 
 -- `OR`, of the row by itself | 4 side; 6 escrow 0, revealed with limit or qty 0, unrevealed with either not 0; 31 uncovered
 unfoldable pub row_refusal : Cover → Row → ℕ
 row_refusal cover row =
-    unless (leb row.side 1) 4
-    then unless (ltb 0 row.escrowed) 6
-    then unless (cond row.revealed (ltb 0 row.limit && ltb 0 row.qty) (eqb row.limit 0 && eqb row.qty 0)) 6
+    unless (nat_le row.side 1) 4
+    then unless (nat_lt 0 row.escrowed) 6
+    then unless (if row.revealed then nat_lt 0 row.limit && nat_lt 0 row.qty else row.limit == 0 && row.qty == 0) 6
     then cover_refusal cover row
 
 -- `OR` | these; 7 seventeenth; 8 owner seen
 unfoldable pub order_refusal : Session → Cover → Row → ℕ
 order_refusal s cover row =
     row_refusal cover row
-    then unless (ltb s.order_count max_orders) 7
+    then unless (nat_lt s.order_count max_orders) 7
     then unless (not (some (λ i. same (order_at s i).owner row.owner) s.order_count)) 8
 
 -- one order more

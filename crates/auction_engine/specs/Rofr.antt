@@ -1,5 +1,5 @@
 -- Exercise and close: the issuer's right of first refusal.
-use Rattle.std.specs.Prelude.{true, not, ◌||◌, List, [], ◌∷◌, ℕ, ◌+◌, ◌-◌, ◌^◌, min, ltb, leb, ℤ, set}
+use Rattle.std.specs.Prelude.{true, not, ◌||◌, List, [], ◌∷◌, ℕ, ◌+◌, ◌-◌, ◌^◌, min, nat_lt, nat_le, ℤ, set}
 use Rattle.std.specs.Int.Signed.{lt_z, le_z}
 use Rattle.laws.specs.Lists.{same}
 use Rattle.laws.specs.Checks.{unless, ◌then◌}
@@ -17,12 +17,12 @@ exercise_refusal s now issuer i q =
     unless (admits s.phase exercise_kind) 10
     then unless (lt_z now (rofr_end s)) 11
     then unless (same issuer s.params.rofr_authority) 19
-    then unless (ltb 0 q) 20
-    then unless (ltb s.fill_count max_fills) 18
-    then unless (ltb i s.fill_count) 21
+    then unless (nat_lt 0 q) 20
+    then unless (nat_lt s.fill_count max_fills) 18
+    then unless (nat_lt i s.fill_count) 21
     then unless (not (fill_at s i).rofr) 21
     then unless (not (fill_at s i).settled) 21
-    then unless (leb q (fill_at s i).qty) 22
+    then unless (nat_le q (fill_at s i).qty) 22
 
 -- the fill with q less
 abbrev pub less_qty : Fill → ℕ → Fill

@@ -1,5 +1,5 @@
 -- Settle, skip, finish and expire.
-use Rattle.std.specs.Prelude.{true, cond, not, List, [], ◌∷◌, ℕ, ◌+◌, ◌-◌, ◌^◌, min, ltb, eqb, ℤ, set}
+use Rattle.std.specs.Prelude.{true, if◌then◌else◌, not, List, [], ◌∷◌, ℕ, ◌+◌, ◌-◌, ◌^◌, min, nat_lt, ◌==◌, ℤ, set}
 use Rattle.std.specs.Int.Signed.{le_z}
 use Rattle.laws.specs.Sums.{sum_below, only}
 use Rattle.laws.specs.Search.{every}
@@ -21,7 +21,7 @@ use Rattle.auction_engine.specs.Call.{settle_kind, skip_kind, finish_kind, expir
 unfoldable pub settle_refusal : Session → (i : ℕ) → ℕ
 settle_refusal s i =
     unless (admits s.phase settle_kind) 10
-    then unless (ltb i s.fill_count) 21
+    then unless (nat_lt i s.fill_count) 21
     then unless (not (fill_at s i).settled) 23
 
 abbrev pub as_settled : Fill → Fill
@@ -35,15 +35,15 @@ settle_effect s i =
 
 -- `settle F QTY PRICE`; nothing for a fill that the issuer took whole
 unfoldable pub settle_events : Session → (i : ℕ) → List Event
-settle_events s i = cond (eqb (fill_at s i).qty 0) [] (FillSettled i (fill_at s i).qty s.cleared.clear_price ∷ [])
+settle_events s i = if (fill_at s i).qty == 0 then [] else FillSettled i (fill_at s i).qty s.cleared.clear_price ∷ []
 
 -- Skip | 10; 21; 23; 24 reason 0
 unfoldable pub skip_refusal : Session → (i reason : ℕ) → ℕ
 skip_refusal s i reason =
     unless (admits s.phase skip_kind) 10
-    then unless (ltb i s.fill_count) 21
+    then unless (nat_lt i s.fill_count) 21
     then unless (not (fill_at s i).settled) 23
-    then unless (ltb 0 reason) 24
+    then unless (nat_lt 0 reason) 24
 
 -- the fill is settled, and its bit of the skip word set
 unfoldable pub skip_effect : Session → (i : ℕ) → Session
@@ -64,7 +64,7 @@ unfoldable pub finish_refusal : Session → ℕ
 finish_refusal s =
     unless (admits s.phase finish_kind) 10
     then unless (every (λ i. (fill_at s i).settled) s.fill_count) 25
-    then unless (ltb (moved_volume s) (2 ^ 64)) 17
+    then unless (nat_lt (moved_volume s) (2 ^ 64)) 17
 
 unfoldable pub finish_effect : Session → Session
 finish_effect s = at_phase s session.printed
@@ -81,7 +81,7 @@ print_of s =
       n_investor_ids = distinct_participants s.orders s.order_count s.fills s.skipped_fills s.fill_count;
       forced_sale = s.params.forced;
       policy = s.given.policy;
-      partial = not (eqb s.skipped_fills 0);
+      partial = not (s.skipped_fills == 0);
     }
 
 unfoldable pub finish_events : Session → List Event

@@ -1,7 +1,7 @@
 // The auction engine from the reveal on: a session, and the nine calls on it.
 #![tactic(auto)]
 
-ghost use Rattle.std.specs.Prelude.{◌≡◌, true, false, not, ◌||◌, [], ◌+◌, ◌<◌, ◌≤◌, leb, eqb};
+ghost use Rattle.std.specs.Prelude.{◌≡◌, true, false, not, ◌||◌, [], ◌+◌, ◌<◌, ◌≤◌, nat_le, ◌==◌};
 ghost use Rattle.laws.specs.Search.{every};
 ghost use Rattle.laws.specs.Checks.{◌then◌};
 ghost use Rattle.credit_math.specs.Limits.{max_orders};
@@ -233,7 +233,7 @@ pub(crate) fn admits(phase: u8, kind: u8) -> bool
 
 // The phases of document 01 in which each kind of call is admitted.
 fn before_clear(phase: u8) -> bool
-    ensures { result ≡ (eqb phase 0 || eqb phase 1 || eqb phase 7) }
+    ensures { result ≡ (phase == 0 || phase == 1 || phase == 7) }
 {
     match phase {
         0 => true,
@@ -244,7 +244,7 @@ fn before_clear(phase: u8) -> bool
 }
 
 fn in_allocating(phase: u8) -> bool
-    ensures { result ≡ eqb phase 2 }
+    ensures { result ≡ (phase == 2) }
 {
     match phase {
         2 => true,
@@ -253,7 +253,7 @@ fn in_allocating(phase: u8) -> bool
 }
 
 fn in_rofr(phase: u8) -> bool
-    ensures { result ≡ eqb phase 3 }
+    ensures { result ≡ (phase == 3) }
 {
     match phase {
         3 => true,
@@ -262,7 +262,7 @@ fn in_rofr(phase: u8) -> bool
 }
 
 fn in_settling(phase: u8) -> bool
-    ensures { result ≡ eqb phase 4 }
+    ensures { result ≡ (phase == 4) }
 {
     match phase {
         4 => true,
@@ -271,7 +271,7 @@ fn in_settling(phase: u8) -> bool
 }
 
 fn not_ended(phase: u8) -> bool
-    ensures { result ≡ not (eqb phase 5 || eqb phase 6) }
+    ensures { result ≡ not (phase == 5 || phase == 6) }
 {
     match phase {
         5 => false,
@@ -342,7 +342,7 @@ impl Session {
 
 fn sides_ok(orders: [Order; Session::MAX_ORDERS], n: usize) -> bool
     requires { n ≤ max_orders }
-    ensures { result ≡ every (λ i. leb (order_in orders i).side 1) n }
+    ensures { result ≡ every (λ i. nat_le (order_in orders i).side 1) n }
 {
     let mut i = 0;
     while i < n {

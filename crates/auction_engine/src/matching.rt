@@ -1,5 +1,5 @@
 // The call `allocate`: buyers and sellers with something left are paired, in book order, at most as often as the call allows.
-ghost use Rattle.std.specs.Prelude.{◌≡◌, cond, not, ◌+◌, ◌<◌, ◌≤◌, min, ltb, eqb};
+ghost use Rattle.std.specs.Prelude.{◌≡◌, if◌then◌else◌, not, ◌+◌, ◌<◌, ◌≤◌, min, nat_lt, ◌==◌};
 ghost use Rattle.laws.specs.Sums.{only};
 ghost use Rattle.laws.specs.Search.{every};
 ghost use Rattle.credit_math.specs.Limits.{max_orders};
@@ -153,7 +153,7 @@ fn next_pair(orders: [Order; Session::MAX_ORDERS], n: usize) -> Pair
 // The first due order of the places up to i, from that of the places before i; the number of places where there is none.
 fn first_due(found: usize, due: bool, i: usize) -> usize
     requires { i < max_orders }
-    ensures { result ≡ cond (ltb found i) found (cond due i (i + 1)) }
+    ensures { result ≡ (if nat_lt found i then found else (if due then i else i + 1)) }
 {
     if found < i {
         return found;
@@ -217,7 +217,7 @@ fn fill_line(at: usize, b: usize, a: usize, qty: u64) -> Line
 
 fn none_left(orders: [Order; Session::MAX_ORDERS], n: usize) -> bool
     requires { n ≤ max_orders }
-    ensures { result ≡ every (λ i. eqb (order_in orders i).alloc_left 0) n }
+    ensures { result ≡ every (λ i. (order_in orders i).alloc_left == 0) n }
 {
     let mut i = 0;
     while i < n {

@@ -1,5 +1,5 @@
 // The rows `SH`, `SI` and `OR`: what opens a session.
-ghost use Rattle.std.specs.Prelude.{◌≡◌, true, false, cond, not, ◌&&◌, ◌||◌, ◌+◌, ◌<◌, ◌≤◌, ltb, leb, eqb, pos, ◌+ℤ◌};
+ghost use Rattle.std.specs.Prelude.{◌≡◌, true, false, if◌then◌else◌, not, ◌&&◌, ◌||◌, ◌+◌, ◌<◌, ◌≤◌, nat_lt, nat_le, ◌==◌, pos, ◌+ℤ◌};
 ghost use Rattle.std.specs.Int.Signed.{lt_z, le_z};
 ghost use Rattle.laws.specs.Search.{some};
 ghost use Rattle.laws.specs.Lists.{same};
@@ -35,8 +35,8 @@ fn schedule_refusal(p: Params) -> u8
         then unless (not (same p.rofr_authority no_wallet) || le_z p.rofr_window (pos 0)) 5
         then unless (sum_fits p.reveal_end p.rofr_window) 5
         then unless (lt_z (p.reveal_end +ℤ p.rofr_window) p.settle_deadline) 5
-        then unless (leb 2 p.min_reveals) 5
-        then unless (ltb 0 p.max_cash) 6 }
+        then unless (nat_le 2 p.min_reveals) 5
+        then unless (nat_lt 0 p.max_cash) 6 }
 {
     let authority = p.rofr_authority;
     let none = book::same_key(authority, [0; 32]);
@@ -59,8 +59,8 @@ fn schedule_refusal(p: Params) -> u8
 fn end_refusal(p: Params) -> u8
     ensures { result ≡ unless (sum_fits p.reveal_end p.rofr_window) 5
         then unless (lt_z (p.reveal_end +ℤ p.rofr_window) p.settle_deadline) 5
-        then unless (leb 2 p.min_reveals) 5
-        then unless (ltb 0 p.max_cash) 6 }
+        then unless (nat_le 2 p.min_reveals) 5
+        then unless (nat_lt 0 p.max_cash) 6 }
 {
     let fits = unless(
         clock::sum_fits(p.reveal_end, p.rofr_window),
@@ -103,7 +103,7 @@ pub fn row_refusal(cover: Cover, row: Row) -> u8
 
 // Revealed with both figures, or unrevealed with none.
 fn shows_right(row: Row) -> bool
-    ensures { result ≡ cond row.revealed (ltb 0 row.limit && ltb 0 row.qty) (eqb row.limit 0 && eqb row.qty 0) }
+    ensures { result ≡ (if row.revealed then nat_lt 0 row.limit && nat_lt 0 row.qty else row.limit == 0 && row.qty == 0) }
 {
     if row.revealed {
         return both(0 < row.limit, 0 < row.qty);

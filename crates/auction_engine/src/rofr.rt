@@ -1,5 +1,5 @@
 // The calls `exercise_rofr` and `close_rofr`: the issuer's right of first refusal.
-ghost use Rattle.std.specs.Prelude.{◌≡◌, true, not, ◌+◌, ◌-◌, ◌^◌, ◌<◌, ◌≤◌, min, ltb, leb};
+ghost use Rattle.std.specs.Prelude.{◌≡◌, true, not, ◌+◌, ◌-◌, ◌^◌, ◌<◌, ◌≤◌, min, nat_lt, nat_le};
 ghost use Rattle.std.specs.Int.Signed.{lt_z};
 ghost use Rattle.laws.specs.Lists.{same};
 ghost use Rattle.laws.specs.Checks.{unless, ◌then◌};
@@ -83,10 +83,10 @@ impl Session {
     // 21 no fill, or already rofr or settled; 22 qty above the fill.
     fn take_refusal(&self, at: usize, qty: u64) -> u8
         requires { self.now.fill_count ≤ max_fills }
-        ensures { result ≡ unless (ltb at self.now.fill_count) 21
+        ensures { result ≡ unless (nat_lt at self.now.fill_count) 21
             then unless (not (fill_at self.now at).rofr) 21
             then unless (not (fill_at self.now at).settled) 21
-            then unless (leb qty (fill_at self.now at).qty) 22 }
+            then unless (nat_le qty (fill_at self.now at).qty) 22 }
     {
         if self.fill_count <= at {
             return refusals::NO_FILL;

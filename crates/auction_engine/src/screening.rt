@@ -1,5 +1,5 @@
 // The call `screen`: one order against its gate verdict and its investor's other orders.
-ghost use Rattle.std.specs.Prelude.{◌≡◌, true, not, ◌&&◌, ◌||◌, ◌<◌, ◌≤◌, ltb, leb, eqb};
+ghost use Rattle.std.specs.Prelude.{◌≡◌, true, not, ◌&&◌, ◌||◌, ◌<◌, ◌≤◌, nat_lt, nat_le, ◌==◌};
 ghost use Rattle.laws.specs.Lists.{same};
 ghost use Rattle.laws.specs.Checks.{unless, ◌then◌};
 ghost use Rattle.credit_math.specs.Limits.{max_orders};
@@ -94,8 +94,8 @@ impl Session {
     // 12 no such order; 13 side; 14 not revealed; 15 screened.
     fn order_refusal(&self, i: usize, side: u8, o: Order) -> u8
         requires { (self.now.order_count ≤ max_orders) × (i < max_orders → o ≡ order_at self.now i) }
-        ensures { result ≡ unless (ltb i self.now.order_count) 12
-            then unless (eqb (order_at self.now i).side side) 13
+        ensures { result ≡ unless (nat_lt i self.now.order_count) 12
+            then unless ((order_at self.now i).side == side) 13
             then unless (order_at self.now i).revealed 14
             then unless (not (order_at self.now i).screened) 15 }
     {
@@ -132,10 +132,10 @@ impl Session {
 
 // 4: a side or a verdict outside its values; without an id it is zeros; a passed buy has an id.
 pub fn arguments_refusal(side: u8, verdict: u8, has_id: bool, id: [u8; 16]) -> u8
-    ensures { result ≡ unless (leb side 1) 4
-        then unless (leb verdict 6) 4
+    ensures { result ≡ unless (nat_le side 1) 4
+        then unless (nat_le verdict 6) 4
         then unless (has_id || same id no_investor) 4
-        then unless (has_id || not (eqb side 0 && eqb verdict 0)) 4 }
+        then unless (has_id || not (side == 0 && verdict == 0)) 4 }
 {
     let sides = unless(side <= 1, refusals::BAD_FIELD);
     let verdicts = unless(verdict <= 6, refusals::BAD_FIELD);

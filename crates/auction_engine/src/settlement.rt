@@ -1,5 +1,5 @@
 // The calls `settle`, `skip_fill`, `finish` and `expire`. Cash and notes move on the chain.
-ghost use Rattle.std.specs.Prelude.{◌≡◌, true, false, cond, not, [], ◌∷◌, ◌+◌, ◌-◌, ◌^◌, ◌<◌, ◌≤◌, min, ltb, eqb};
+ghost use Rattle.std.specs.Prelude.{◌≡◌, true, false, if◌then◌else◌, not, [], ◌∷◌, ◌+◌, ◌-◌, ◌^◌, ◌<◌, ◌≤◌, min, nat_lt, ◌==◌};
 ghost use Rattle.laws.specs.Sums.{sum_below, only};
 ghost use Rattle.wide.specs.Value.{value};
 ghost use Rattle.laws.specs.Search.{every};
@@ -70,7 +70,7 @@ impl Session {
     // 21 no fill; 23 settled.
     fn fill_refusal(&self, at: usize, f: Fill) -> u8
         requires { (self.now.fill_count ≤ max_fills) × (at < max_fills → f ≡ fill_at self.now at) }
-        ensures { result ≡ unless (ltb at self.now.fill_count) 21 then unless (not (fill_at self.now at).settled) 23 }
+        ensures { result ≡ unless (nat_lt at self.now.fill_count) 21 then unless (not (fill_at self.now at).settled) 23 }
     {
         if self.fill_count <= at {
             return refusals::NO_FILL;
@@ -243,7 +243,7 @@ impl Session {
 
 // Nothing is said of a fill that the issuer took whole.
 fn settle_events(f: Fill, fill: u32, price: u64) -> EventPair
-    ensures { result ≡ event_pair (cond (eqb f.qty 0) [] (FillSettled fill f.qty price ∷ [])) }
+    ensures { result ≡ event_pair (if f.qty == 0 then [] else FillSettled fill f.qty price ∷ []) }
 {
     if f.qty == 0 {
         return EventPair::none();

@@ -1,5 +1,5 @@
 -- Orders and fills.
-use Rattle.std.specs.Prelude.{Bool, false, ◌&&◌, List, [], ℕ, eqb, get_or, replicate}
+use Rattle.std.specs.Prelude.{Bool, false, ◌&&◌, List, [], ℕ, ◌==◌, slice_index_or, replicate}
 use Rattle.book.specs.declared.Order.{Order}
 use Rattle.book.specs.declared.Fill.{Fill}
 use Rattle.book.specs.declared.Row.{Row}
@@ -40,10 +40,10 @@ abbrev pub no_fill : Fill
 no_fill = record { buyer = []; seller = []; qty = 0; rofr = false; settled = false }
 
 abbrev pub order_in : List Order → ℕ → Order
-order_in orders i = get_or orders i no_order
+order_in orders i = slice_index_or orders i no_order
 
 abbrev pub fill_in : List Fill → ℕ → Fill
-fill_in fills i = get_or fills i no_fill
+fill_in fills i = slice_index_or fills i no_fill
 
 -- an order as a file lists it: not screened, with no lot and no id
 abbrev pub listed : Row → Order
@@ -91,4 +91,4 @@ unfoldable pub is_live : Order → Bool
 is_live o = o.revealed && o.screened && o.eligible
 
 abbrev pub is_buy : Order → Bool
-is_buy o = eqb o.side buy_side
+is_buy o = o.side == buy_side

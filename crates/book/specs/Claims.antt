@@ -1,5 +1,5 @@
 -- What is proved of `compute_clear`: proofs/Theorems.antt. Demand 2 over the orders of a session.
-use Rattle.std.specs.Prelude.{◌≡◌, ◌≢◌, ◌↔◌, Bool, true, false, cond, not, ◌&&◌, List, map, ℕ, ◌^◌, ◌≤◌, ◌<◌, min, ltb, length, get_or}
+use Rattle.std.specs.Prelude.{◌≡◌, ◌≢◌, ◌↔◌, Bool, true, false, if◌then◌else◌, not, ◌&&◌, List, map, ℕ, ◌^◌, ◌≤◌, ◌<◌, min, nat_lt, length, slice_index}
 use Rattle.laws.specs.Sums.{sum_below, only}
 use Rattle.credit_math.specs.Limits.{max_orders}
 use Rattle.credit_math.specs.Error.{no_cross}
@@ -41,17 +41,17 @@ module _ (p : Params) (g : Given) (orders : List Order) (n : ℕ) where
 
   -- the lots of the orders of one side, added up
   abbrev pub side_sum : (buys : Bool) (lots : List ℕ) → ℕ
-  side_sum buys lots = sum_below (λ i. only (cond buys (is_buy (order_in orders i)) (not (is_buy (order_in orders i)))) (get_or lots i 0)) (min n max_orders)
+  side_sum buys lots = sum_below (λ i. only (if buys then is_buy (order_in orders i) else not (is_buy (order_in orders i))) (slice_index lots i)) (min n max_orders)
 
   -- an order among the first n that is live and trades at the price on its side
   abbrev pub takes_part : (price i : ℕ) → Bool
-  takes_part price i = (ltb i n && is_live (order_in orders i)) && trades_at orders n (is_buy (order_in orders i)) price i
+  takes_part price i = (nat_lt i n && is_live (order_in orders i)) && trades_at orders n (is_buy (order_in orders i)) price i
 
   -- 'when the volume fits 64 bits each side's lots add up to it, none above its order'; they are the pro-rata lots, and the others have none
   pub record RightAllocations (price volume : ℕ) (lots : List ℕ) : Type 0 where
     pub sides : (buys : Bool) → side_sum buys lots ≡ volume
-    pub within : (i : ℕ) → get_or lots i 0 ≤ (order_in orders i).qty
-    pub others : (i : ℕ) → takes_part price i ≡ false → get_or lots i 0 ≡ 0
+    pub within : (i : ℕ) → slice_index lots i ≤ (order_in orders i).qty
+    pub others : (i : ℕ) → takes_part price i ≡ false → slice_index lots i ≡ 0
     pub pro_rata : lots ≡ allocations orders n price volume
 
   -- an outcome with the best price, its volume and its lots

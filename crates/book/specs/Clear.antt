@@ -1,5 +1,5 @@
 -- `compute_clear` from its list `orders` on, with the two checks before it.
-use Rattle.std.specs.Prelude.{Bool, true, false, cond, not, ◌&&◌, List, [], ◌∷◌, map, ℕ, ◌^◌, min, ltb, leb, length, set, replicate}
+use Rattle.std.specs.Prelude.{Bool, true, false, if◌then◌else◌, not, ◌&&◌, List, [], ◌∷◌, map, ℕ, ◌^◌, min, nat_lt, nat_le, length, set, replicate}
 use Rattle.laws.specs.Lists.{table, keep}
 use Rattle.credit_math.specs.Limits.{max_orders}
 use Rattle.credit_math.specs.Price.{Found, refused, failed, cross, find_uniform_clear_price}
@@ -48,7 +48,9 @@ module _ (orders : List Order) (n : ℕ) where
   -- `in_buy`, `in_sell`: an order trades at p on that side
   unfoldable pub trades_at : (buys : Bool) (p i : ℕ) → Bool
   trades_at buys p i =
-      cond buys (is_buy (order_in orders i) && leb p (order_in orders i).limit) (not (is_buy (order_in orders i)) && leb (order_in orders i).limit p)
+      if buys
+      then is_buy (order_in orders i) && nat_le p (order_in orders i).limit
+      else not (is_buy (order_in orders i)) && nat_le (order_in orders i).limit p
 
   -- the live orders of a side that trade at p
   unfoldable pub side_orders : (buys : Bool) (p : ℕ) → List ℕ
@@ -68,17 +70,17 @@ module _ (orders : List Order) (n : ℕ) where
   allotted (refused number) = refused_with number
   allotted (failed reason) = failed_by reason
   allotted (cross p v) =
-      cond (ltb v (2 ^ 64))
-      (record { refusal = 0; failed = 0; price = p; volume = v; lots = allocations p v })
-      (refused_with math_overflow)
+      if nat_lt v (2 ^ 64)
+      then record { refusal = 0; failed = 0; price = p; volume = v; lots = allocations p v }
+      else refused_with math_overflow
 
 -- the reserve: 'reserve 8 (0 if forced)'
 unfoldable pub floor_of : Params → Given → ℕ
-floor_of p g = cond p.forced 0 g.reserve
+floor_of p g = if p.forced then 0 else g.reserve
 
 -- 'TooFewReveals 1 (live orders below min_reveals), MarkUnavailable 3 (unforced, mark 0), NoCross 2, checked so', then 17
 unfoldable pub compute_clear : Params → Given → List Order → ℕ → Outcome
 compute_clear p g orders n =
-    cond (ltb (length (live_orders orders n)) p.min_reveals) (failed_by too_few_reveals)
-    (cond (not p.forced && not g.mark) (failed_by mark_unavailable)
-    (allotted orders n (searched orders n (floor_of p g) g.reference)))
+    if nat_lt (length (live_orders orders n)) p.min_reveals then failed_by too_few_reveals
+    else (if not p.forced && not g.mark then failed_by mark_unavailable
+    else allotted orders n (searched orders n (floor_of p g) g.reference))

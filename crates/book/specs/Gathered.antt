@@ -1,5 +1,5 @@
 -- What the private functions hand each other: arrays of which the first `count` places hold the lists of Clear.antt.
-use Rattle.std.specs.Prelude.{◌≡◌, Bool, List, map, ℕ, ◌≤◌, ◌<◌, length, take, get_or}
+use Rattle.std.specs.Prelude.{◌≡◌, Bool, List, map, ℕ, ◌≤◌, ◌<◌, length, take, slice_index}
 use Rattle.credit_math.specs.Limits.{max_orders}
 use Rattle.credit_math.specs.Price.{buy, sell, cross}
 use Rattle.book.specs.Book.{order_in, is_buy}
@@ -48,7 +48,7 @@ pub record FromBook (l : Live) : Type 0 where
 -- n places of a book
 pub record Places (places : List ℕ) (n : ℕ) : Type 0 where
   pub few : n ≤ max_orders
-  pub inside : (i : ℕ) → i < n → get_or places i 0 < max_orders
+  pub inside : (i : ℕ) → i < n → slice_index places i < max_orders
 
 -- what the functions answer, of whatever book the live orders are
 module _ (l : Live) where

@@ -1,5 +1,5 @@
 // `compute_clear`: the live orders gathered, the price, and the lots.
-ghost use Rattle.std.specs.Prelude.{◌≡◌, false, cond, not, ◌&&◌, min, leb, take, replicate};
+ghost use Rattle.std.specs.Prelude.{◌≡◌, false, if◌then◌else◌, not, ◌&&◌, min, nat_le, take, replicate};
 ghost use Rattle.wide.specs.Value.{value};
 ghost use Rattle.credit_math.specs.Limits.{max_orders};
 ghost use Rattle.book.specs.Clear.{stored, floor_of, compute_clear};
@@ -121,7 +121,7 @@ pub fn at_most_orders(n: usize) -> usize
 
 // How many places an order takes.
 fn place(kept: bool) -> usize
-    ensures { result ≡ cond kept 1 0 }
+    ensures { result ≡ (if kept then 1 else 0) }
 {
     if kept { 1 } else { 0 }
 }
@@ -235,7 +235,7 @@ fn side_orders(buys: bool, live: Live, p: u64) -> Side
 
 // Buyers take part at or below their limit, sellers at or above it.
 fn trades_at(buys: bool, is_buy: bool, limit: u64, p: u64) -> bool
-    ensures { result ≡ cond buys (is_buy && leb p limit) (not is_buy && leb limit p) }
+    ensures { result ≡ (if buys then is_buy && nat_le p limit else not is_buy && nat_le limit p) }
 {
     if buys {
         if is_buy {

@@ -1,7 +1,7 @@
 // The book of a session: its orders and fills, and what it was opened with.
 #![tactic(auto)]
 
-ghost use Rattle.std.specs.Prelude.{◌≡◌, eqb};
+ghost use Rattle.std.specs.Prelude.{◌≡◌};
 ghost use Rattle.laws.specs.Lists.{same};
 ghost use Rattle.book.specs.Book.{is_live, is_buy, listed, empty_order, empty_fill};
 

@@ -1,5 +1,5 @@
 -- The function `apply` and lists of calls: call records applied in turn come to `run`. proofs/Applied.antt proves it.
-use Rattle.std.specs.Prelude.{◌≡◌, cond, List, [], ◌∷◌, leb}
+use Rattle.std.specs.Prelude.{◌≡◌, if◌then◌else◌, List, [], ◌∷◌, nat_le}
 use Rattle.auction_engine.specs.declared.Session.{Session}
 use Rattle.auction_engine.specs.declared.CallRecord.{CallRecord}
 use Rattle.auction_engine.specs.Call.{Call, expire_kind}
@@ -19,7 +19,7 @@ apply_all s (r ∷ records) = apply_all (applied s r).session records
 -- the calls that they say; a kind above 8 says none
 abbrev pub calls_of : List CallRecord → List Call
 calls_of [] = []
-calls_of (r ∷ records) = cond (leb r.kind expire_kind) (call_of r ∷ calls_of records) (calls_of records)
+calls_of (r ∷ records) = if nat_le r.kind expire_kind then call_of r ∷ calls_of records else calls_of records
 
 -- the session of a run is what the answers hand on
 abbrev pub RunIsAnswers : Type 0

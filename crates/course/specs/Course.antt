@@ -1,5 +1,5 @@
 -- 'Lists of calls': what a list of calls makes of a session, and what two lists are compared by.
-use Rattle.std.specs.Prelude.{Bool, false, cond, not, ◌||◌, List, [], ◌∷◌, ℕ, ◌+◌, ◌-◌, eqb}
+use Rattle.std.specs.Prelude.{Bool, false, if◌then◌else◌, not, ◌||◌, List, [], ◌∷◌, ℕ, ◌+◌, ◌-◌, ◌==◌}
 use Rattle.events.specs.declared.Print.{Print}
 use Rattle.auction_engine.specs.declared.Session.{Session}
 use Rattle.auction_engine.specs.Session.{fill_at, allocating}
@@ -49,7 +49,7 @@ note r s (screen now i side verdict has_id id) = with_session r s
 note r s (clear now) = with_session r s
 note r s (allocate now n) =
     run_of s r.purchases r.settled r.skipped r.skipped_qty (r.crank_fills + (s.fill_count - r.session.fill_count))
-    r.prints r.printed_qty (r.complete || not (eqb s.phase allocating))
+    r.prints r.printed_qty (r.complete || not (s.phase == allocating))
 note r s (exercise now issuer i q) =
     run_of s (record { fill = i; qty = q } ∷ r.purchases) r.settled r.skipped r.skipped_qty r.crank_fills r.prints r.printed_qty r.complete
 note r s (close now caller) = with_session r s
@@ -65,7 +65,7 @@ note r s (expire now) =
 
 -- 'each call gets the session that the one before it handed back'; a refused call leaves all as it was
 unfoldable pub advance : Run → Call → Run
-advance r c = cond (eqb (refusal r.session c) 0) (note r (effect r.session c) c) r
+advance r c = if refusal r.session c == 0 then note r (effect r.session c) c else r
 
 -- a list of calls, in turn
 abbrev pub run : Run → List Call → Run

@@ -1,6 +1,6 @@
 -- Demand 2 over the call `clear`: what it answers for every session and time. proofs/Demand2.antt proves it; `ClearIsRight` of book says the same
 -- of `compute_clear` alone.
-use Rattle.std.specs.Prelude.{◌≡◌, ◌≢◌, ◌↔◌, Bool, false, cond, not, List, [], ◌∷◌, ℕ, ◌^◌, ◌≤◌, ◌<◌, ℤ, length, get_or}
+use Rattle.std.specs.Prelude.{◌≡◌, ◌≢◌, ◌↔◌, Bool, false, if◌then◌else◌, not, List, [], ◌∷◌, ℕ, ◌^◌, ◌≤◌, ◌<◌, ℤ, length, slice_index}
 use Rattle.laws.specs.Sums.{sum_below, only}
 use Rattle.laws.specs.Checks.{◌then◌}
 use Rattle.credit_math.specs.Error.{no_cross}
@@ -66,10 +66,10 @@ module _ (s : Session) where
   -- the lots in the orders of a session t that was cleared at a price
   pub record Lotted (price : ℕ) (t : Session) : Type 0 where
     -- each order has its lot in `alloc` and `alloc_left` and is else as it was; nothing is written past the orders
-    pub lot : (i : ℕ) → i < s.order_count → order_at t i ≡ with_lot (order_at s i) (get_or (lots_at price) i 0)
+    pub lot : (i : ℕ) → i < s.order_count → order_at t i ≡ with_lot (order_at s i) (slice_index (lots_at price) i)
     pub past : (i : ℕ) → s.order_count ≤ i → order_at t i ≡ order_at s i
     -- 'each side's lots add up to it, none above its order', and the orders that do not trade at the price have none
-    pub sides : (buys : Bool) → sum_below (λ i. only (cond buys (is_buy (order_at t i)) (not (is_buy (order_at t i)))) (order_at t i).alloc) s.order_count ≡ executed_at price
+    pub sides : (buys : Bool) → sum_below (λ i. only (if buys then is_buy (order_at t i) else not (is_buy (order_at t i))) (order_at t i).alloc) s.order_count ≡ executed_at price
     pub within : (i : ℕ) → i < s.order_count → (order_at t i).alloc ≤ (order_at t i).qty
     pub others : (i : ℕ) → i < s.order_count → book.takes_part s.params s.given s.orders s.order_count price i ≡ false → (order_at t i).alloc ≡ 0
 

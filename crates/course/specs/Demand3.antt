@@ -1,5 +1,5 @@
 -- Demand 3, to be read beside 'Lists of calls' of document 01. proofs/Demand3.antt proves it.
-use Rattle.std.specs.Prelude.{◌≡◌, ◌↔◌, ◌≢◌, Bool, true, false, ◌&&◌, ◌||◌, List, [], ◌∷◌, ℕ, suc, ◌+◌, ◌≤◌, ◌<◌, eqb, ltb, ℤ, length, get_or}
+use Rattle.std.specs.Prelude.{◌≡◌, ◌↔◌, ◌≢◌, Bool, true, false, ◌&&◌, ◌||◌, List, [], ◌∷◌, ℕ, suc, ◌+◌, ◌≤◌, ◌<◌, ◌==◌, nat_lt, ℤ, length, slice_index}
 use Rattle.laws.specs.Sums.{sum_over, only, count}
 use Rattle.laws.specs.Lists.{Member, same}
 use Rattle.credit_math.specs.Limits.{max_orders}
@@ -36,11 +36,11 @@ pub record JustCleared (s : Session) : Type 0 where
 
 -- 'An order's lot is what `compute_clear` allots it by pro-rata, otherwise 0'
 abbrev pub lot_of : {s : Session} → JustCleared s → ℕ → ℕ
-lot_of j i = get_or (outcome (after (opened j.opening) j.calls).session).lots i 0
+lot_of j i = slice_index (outcome (after (opened j.opening) j.calls).session).lots i
 
 -- 'an order with a lot has more than 0'
 abbrev pub orders_with_lot : {s : Session} → JustCleared s → ℕ
-orders_with_lot {s} j = count (λ i. ltb 0 (lot_of j i)) s.order_count
+orders_with_lot {s} j = count (λ i. nat_lt 0 (lot_of j i)) s.order_count
 
 -- 'For every two such lists that both finish'
 abbrev pub Finishes : Run → Type 0
@@ -91,7 +91,7 @@ is_expire (expire now) = true
 
 abbrev pub expires : Session → List Call → Bool
 expires s [] = false
-expires s (c ∷ calls) = (is_expire c && eqb (refusal s c) 0) || expires (run (begin s) (c ∷ [])).session calls
+expires s (c ∷ calls) = (is_expire c && refusal s c == 0) || expires (run (begin s) (c ∷ [])).session calls
 
 -- the demand, of one just cleared session
 pub record Agreement {s : Session} (j : JustCleared s) : Type 0 where

@@ -1,5 +1,5 @@
 -- What a list of calls has done is what its lines say: each note of `Run` is told by the events of the answers. proofs/Lines.antt proves it.
-use Rattle.std.specs.Prelude.{◌≡◌, Bool, false, cond, not, ◌&&◌, ◌||◌, List, [], ◌∷◌, ◌++◌, ℕ, ◌+◌, eqb}
+use Rattle.std.specs.Prelude.{◌≡◌, Bool, false, if◌then◌else◌, not, ◌&&◌, ◌||◌, List, [], ◌∷◌, ◌++◌, ℕ, ◌+◌, ◌==◌}
 use Rattle.laws.specs.Lists.{Member}
 use Rattle.disclosure.specs.Disclosure.{disclose_answer}
 use Rattle.events.specs.declared.Event.{Event}
@@ -14,7 +14,7 @@ use Rattle.course.specs.Demand3.{after}
 
 -- the events of a call's answer, in their order: none where it is refused
 abbrev pub said_by : Session → Call → List Event
-said_by s c = cond (eqb (refusal s c) 0) (events s c) []
+said_by s c = if refusal s c == 0 then events s c else []
 
 -- those of a list: 'each call gets the session that the one before it handed back'
 abbrev pub lines_of : Session → List Call → List Event
@@ -45,7 +45,7 @@ tell t Nothing = t
 tell t (OrderScreened order exclusion) = t
 tell t (Cleared price volume reserve reference) = t
 tell t (SessionFailed reason) =
-    told_of t.purchases t.skipped t.skipped_qty t.crank_fills t.prints (t.complete && not (eqb reason 4))
+    told_of t.purchases t.skipped t.skipped_qty t.crank_fills t.prints (t.complete && not (reason == 4))
 tell t (FillAllocated fill buy sell qty) =
     told_of t.purchases t.skipped t.skipped_qty (t.crank_fills + 1) t.prints t.complete
 tell t (RofrExercised fill new qty price) =
@@ -57,7 +57,7 @@ tell t (FillSkipped fill qty reason) =
 tell t (ClearingPrint print) =
     told_of t.purchases t.skipped t.skipped_qty t.crank_fills (print ∷ t.prints) t.complete
 tell t (PhaseChanged from to) =
-    told_of t.purchases t.skipped t.skipped_qty t.crank_fills t.prints (t.complete || (eqb from allocating && not (eqb to failed)))
+    told_of t.purchases t.skipped t.skipped_qty t.crank_fills t.prints (t.complete || (from == allocating && not (to == failed)))
 tell t Opened = t
 tell t (Ordered order) = t
 tell t (Refused refusal) = t
@@ -79,7 +79,7 @@ settled_by s (clear now) = []
 settled_by s (allocate now n) = []
 settled_by s (exercise now issuer i q) = []
 settled_by s (close now caller) = []
-settled_by s (settle i) = cond (eqb (answer s (settle i)).refusal 0) (i ∷ []) []
+settled_by s (settle i) = if (answer s (settle i)).refusal == 0 then i ∷ [] else []
 settled_by s (skip now i reason) = []
 settled_by s (finish now) = []
 settled_by s (expire now) = []

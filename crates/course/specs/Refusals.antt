@@ -1,5 +1,5 @@
 -- The numbers with which a call is refused, by row of 'Turning away'. proofs/Refusals.antt proves it.
-use Rattle.std.specs.Prelude.{cond, List, [], ◌∷◌, ℕ, leb}
+use Rattle.std.specs.Prelude.{if◌then◌else◌, List, [], ◌∷◌, ℕ, nat_le}
 use Rattle.laws.specs.Lists.{Member}
 use Rattle.auction_engine.specs.declared.Session.{Session}
 use Rattle.auction_engine.specs.declared.CallRecord.{CallRecord}
@@ -24,7 +24,7 @@ RefusedByItsRow = (s : Session) (c : Call) → Member (answer s c).refusal (0 �
 
 -- the same of a call record; one of a kind above 8 has no row
 abbrev pub record_numbers : CallRecord → List ℕ
-record_numbers r = cond (leb r.kind expire_kind) (numbers_of (call_of r)) []
+record_numbers r = if nat_le r.kind expire_kind then numbers_of (call_of r) else []
 
 abbrev pub RecordRefusedByItsRow : Type 0
 RecordRefusedByItsRow = (s : Session) (r : CallRecord) → Member (applied s r).refusal (0 ∷ 9 ∷ 4 ∷ record_numbers r)

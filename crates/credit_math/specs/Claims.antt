@@ -1,5 +1,5 @@
 -- What is proved of the definitions: proofs/Rounding.antt, proofs/PriceTheorems.antt, proofs/TableTheorems.antt and proofs/ProRataTheorems.antt.
-use Rattle.std.specs.Prelude.{◌≡◌, ◌≢◌, ◌↔◌, Bool, true, List, ℕ, ◌+◌, ◌*◌, ◌^◌, ◌≤◌, ◌<◌, ltb, length, get_or}
+use Rattle.std.specs.Prelude.{◌≡◌, ◌≢◌, ◌↔◌, Bool, true, List, ℕ, ◌+◌, ◌*◌, ◌^◌, ◌≤◌, ◌<◌, nat_lt, length, slice_index}
 use Rattle.laws.specs.Sums.{sum_below, only, count, sum_of}
 use Rattle.laws.specs.Lists.{Member}
 use Rattle.credit_math.specs.Limits.{max_orders, side_bits, volume_bits}
@@ -17,9 +17,9 @@ pub record RoundsUp (a b : ℕ) : Type 0 where
 -- two tables have the same rows; what stands behind these is not asked
 pub record SameRows (t u : Table) : Type 0 where
   pub counts : t.count ≡ u.count
-  pub limits_too : (k : ℕ) → k < t.count → get_or t.limits k 0 ≡ get_or u.limits k 0
-  pub buys_too : (k : ℕ) → k < t.count → get_or t.buys k 0 ≡ get_or u.buys k 0
-  pub sells_too : (k : ℕ) → k < t.count → get_or t.sells k 0 ≡ get_or u.sells k 0
+  pub limits_too : (k : ℕ) → k < t.count → slice_index t.limits k ≡ slice_index u.limits k
+  pub buys_too : (k : ℕ) → k < t.count → slice_index t.buys k ≡ slice_index u.buys k
+  pub sells_too : (k : ℕ) → k < t.count → slice_index t.sells k ≡ slice_index u.sells k
 
 module _ (is_buy : List Bool) (limits qtys : List ℕ) where
   -- p is a candidate, an order's limit at or above the reserve, and executes something
@@ -54,12 +54,12 @@ module _ (is_buy : List Bool) (limits qtys : List ℕ) where
   -- a table as document 02 has it
   pub record RightTable (t : Table) : Type 0 where
     -- 'It holds exactly the orders' limits'
-    pub exactly : (p : ℕ) → ((k : ℕ) × (k < t.count) × (get_or t.limits k 0 ≡ p)) ↔ Member p limits
+    pub exactly : (p : ℕ) → ((k : ℕ) × (k < t.count) × (slice_index t.limits k ≡ p)) ↔ Member p limits
     -- 'ascending, each once'
-    pub ascending : (i k : ℕ) → i < k → k < t.count → get_or t.limits i 0 < get_or t.limits k 0
+    pub ascending : (i k : ℕ) → i < k → k < t.count → slice_index t.limits i < slice_index t.limits k
     -- 'every total must equal the file-order sum of document 01'
-    pub buys : (k : ℕ) → k < t.count → get_or t.buys k 0 ≡ buy is_buy limits qtys (get_or t.limits k 0)
-    pub sells : (k : ℕ) → k < t.count → get_or t.sells k 0 ≡ sell is_buy limits qtys (get_or t.limits k 0)
+    pub buys : (k : ℕ) → k < t.count → slice_index t.buys k ≡ buy is_buy limits qtys (slice_index t.limits k)
+    pub sells : (k : ℕ) → k < t.count → slice_index t.sells k ≡ sell is_buy limits qtys (slice_index t.limits k)
 
   -- the table is right where the orders are not refused, and has no row and no figure where they are
   pub record TableIsRight : Type 0 where
@@ -68,13 +68,13 @@ module _ (is_buy : List Bool) (limits qtys : List ℕ) where
     pub one_table : price_refusal is_buy limits qtys ≡ 0 → (t : Table) → RightTable t → SameRows t (side_totals is_buy limits qtys)
     pub no_row : price_refusal is_buy limits qtys ≢ 0 → (side_totals is_buy limits qtys).count ≡ 0
     pub no_figure : price_refusal is_buy limits qtys ≢ 0 → (k : ℕ)
-        → (get_or (side_totals is_buy limits qtys).limits k 0 ≡ 0) × (get_or (side_totals is_buy limits qtys).buys k 0 ≡ 0) × (get_or (side_totals is_buy limits qtys).sells k 0 ≡ 0)
+        → (slice_index (side_totals is_buy limits qtys).limits k ≡ 0) × (slice_index (side_totals is_buy limits qtys).buys k ≡ 0) × (slice_index (side_totals is_buy limits qtys).sells k ≡ 0)
 
   -- the sums that are carried along are of some of the orders: of n orders with quantities of k bits they stay below n × 2 ^ k, whichever orders, and for
   -- every n and k
   abbrev pub RunningSumsFit : Type 0
-  RunningSumsFit = (n k : ℕ) → 0 < n → length is_buy ≤ n → ((i : ℕ) → get_or qtys i 0 < 2 ^ k) → (some : ℕ → Bool)
-      → sum_below (λ i. only (some i) (get_or qtys i 0)) (length is_buy) < n * 2 ^ k
+  RunningSumsFit = (n k : ℕ) → 0 < n → length is_buy ≤ n → ((i : ℕ) → slice_index qtys i < 2 ^ k) → (some : ℕ → Bool)
+      → sum_below (λ i. only (some i) (slice_index qtys i)) (length is_buy) < n * 2 ^ k
 
   -- 'Side totals may reach 68 bits, the volume 67': not more, for at most max_orders orders of 64-bit quantities
   pub record WithinBits : Type 0 where
@@ -83,7 +83,7 @@ module _ (is_buy : List Bool) (limits qtys : List ℕ) where
     pub volume : (p : ℕ) → executed is_buy limits qtys p < 2 ^ volume_bits
 
   abbrev pub TotalsFit : Type 0
-  TotalsFit = length is_buy ≤ max_orders → ((i : ℕ) → get_or qtys i 0 < 2 ^ 64) → WithinBits
+  TotalsFit = length is_buy ≤ max_orders → ((i : ℕ) → slice_index qtys i < 2 ^ 64) → WithinBits
 
 -- a share and its remainder, as document 02 has them
 pub record RightShare (total sum qty quotient rest : ℕ) : Type 0 where
@@ -105,7 +105,7 @@ pub record RightRemainders (qtys : List ℕ) (total : ℕ) : Type 0 where
   -- one remainder for each quantity, that of its share
   pub length_is : length (remainders qtys total) ≡ length qtys
   pub each : (i : ℕ) → i < length qtys
-      → RightShare total (sum_of qtys) (get_or qtys i 0) (get_or (shares qtys total) i 0) (get_or (remainders qtys total) i 0)
+      → RightShare total (sum_of qtys) (slice_index qtys i) (slice_index (shares qtys total) i) (slice_index (remainders qtys total) i)
   -- 'the residue times the sum equals all remainders added'
   pub added : residue qtys total * sum_of qtys ≡ sum_of (remainders qtys total)
 
@@ -114,13 +114,13 @@ pub record RightLots (ids qtys : List ℕ) (total : ℕ) : Type 0 where
   -- one for each quantity
   pub length_is : length (lots ids qtys total) ≡ length qtys
   -- shares are floors: a lot is its share or one unit more
-  pub low : (i : ℕ) → i < length qtys → share total (sum_of qtys) (get_or qtys i 0) ≤ get_or (lots ids qtys total) i 0
-  pub high : (i : ℕ) → i < length qtys → get_or (lots ids qtys total) i 0 ≤ share total (sum_of qtys) (get_or qtys i 0) + 1
+  pub low : (i : ℕ) → i < length qtys → share total (sum_of qtys) (slice_index qtys i) ≤ slice_index (lots ids qtys total) i
+  pub high : (i : ℕ) → i < length qtys → slice_index (lots ids qtys total) i ≤ share total (sum_of qtys) (slice_index qtys i) + 1
   -- the residue is below the number of entries with a quantity
-  pub residue_small : 0 < sum_of qtys → residue qtys total < count (λ i. ltb 0 (get_or qtys i 0)) (length qtys)
+  pub residue_small : 0 < sum_of qtys → residue qtys total < count (λ i. nat_lt 0 (slice_index qtys i)) (length qtys)
   -- lots add up to the total, none above its quantity
   pub adds_up : sum_of (lots ids qtys total) ≡ total
-  pub within : (i : ℕ) → get_or (lots ids qtys total) i 0 ≤ get_or qtys i 0
+  pub within : (i : ℕ) → slice_index (lots ids qtys total) i ≤ slice_index qtys i
 
 abbrev pub LotsAreRight : (ids qtys : List ℕ) (total : ℕ) → Type 0
 LotsAreRight ids qtys total = total ≤ sum_of qtys → RightLots ids qtys total

@@ -1,5 +1,5 @@
 -- `find_uniform_clear_price`. The orders stand in three lists, by place: whether one buys, its limit and its quantity.
-use Rattle.std.specs.Prelude.{Bool, true, false, cond, not, ◌&&◌, List, [], ◌∷◌, ℕ, min, ltb, leb, eqb, length, get_or}
+use Rattle.std.specs.Prelude.{Bool, true, false, if◌then◌else◌, not, ◌&&◌, List, [], ◌∷◌, ℕ, min, nat_lt, nat_le, ◌==◌, length, slice_index, slice_index_or}
 use Rattle.laws.specs.Sums.{sum_below, only}
 use Rattle.laws.specs.Lists.{keep}
 use Rattle.laws.specs.Sort.{sort, dedup}
@@ -23,7 +23,7 @@ module _ (counts : ℕ → Bool) (better : ℕ → ℕ → Bool) where
   improves (at q) p = better p q
 
   abbrev pub step : Best → ℕ → Best
-  step best p = cond (counts p) (cond (improves best p) (at p) best) best
+  step best p = if counts p then (if improves best p then at p else best) else best
 
   abbrev pub walk : Best → List ℕ → Best
   walk best [] = best
@@ -32,11 +32,11 @@ module _ (counts : ℕ → Bool) (better : ℕ → ℕ → Bool) where
 module _ (is_buy : List Bool) (limits qtys : List ℕ) where
   -- 'buy(p) adds buy quantities with limit ≥ p'
   unfoldable pub buy : ℕ → ℕ
-  buy p = sum_below (λ i. only (get_or is_buy i false && leb p (get_or limits i 0)) (get_or qtys i 0)) (length is_buy)
+  buy p = sum_below (λ i. only (slice_index_or is_buy i false && nat_le p (slice_index limits i)) (slice_index qtys i)) (length is_buy)
 
   -- 'sell(p) adds sell quantities with limit ≤ p'
   unfoldable pub sell : ℕ → ℕ
-  sell p = sum_below (λ i. only (not (get_or is_buy i false) && leb (get_or limits i 0) p) (get_or qtys i 0)) (length is_buy)
+  sell p = sum_below (λ i. only (not (slice_index_or is_buy i false) && nat_le (slice_index limits i) p) (slice_index qtys i)) (length is_buy)
 
   -- 'executed is the smaller'
   unfoldable pub executed : ℕ → ℕ
@@ -48,16 +48,16 @@ module _ (is_buy : List Bool) (limits qtys : List ℕ) where
 
   -- 'Candidates executing 0 are skipped'
   unfoldable pub executes : ℕ → Bool
-  executes p = ltb 0 (executed p)
+  executes p = nat_lt 0 (executed p)
 
   -- 'Better means: larger executed, then smaller |sell − buy|, then smaller |p − reference|, then lower p': p is better than q
   unfoldable pub better : (reference p q : ℕ) → Bool
   better reference p q =
-      lex (executed q) (executed p) (lex (imbalance p) (imbalance q) (lex (apart p reference) (apart q reference) (ltb p q)))
+      lex (executed q) (executed p) (lex (imbalance p) (imbalance q) (lex (apart p reference) (apart q reference) (nat_lt p q)))
 
   -- 'A candidate p is an order's limit at or above the reserve'; the source goes through them sorted, each once
   unfoldable pub candidates : (reserve : ℕ) → List ℕ
-  candidates reserve = dedup (sort ltb (keep (leb reserve) limits))
+  candidates reserve = dedup (sort nat_lt (keep (nat_le reserve) limits))
 
   -- the price that the source's walk over the candidates ends with
   unfoldable pub clear_price : (reserve reference : ℕ) → Best
@@ -83,13 +83,13 @@ priced executed (at p) = cross p (executed p)
 -- 'Public .. price search | 30 over 16 entries or lent slices of unequal length'
 unfoldable pub price_refusal : List Bool → List ℕ → List ℕ → ℕ
 price_refusal is_buy limits qtys =
-    unless (leb (length is_buy) max_orders) bad_length
-    then unless (eqb (length limits) (length is_buy)) bad_length
-    then unless (eqb (length qtys) (length is_buy)) bad_length
+    unless (nat_le (length is_buy) max_orders) bad_length
+    then unless (length limits == length is_buy) bad_length
+    then unless (length qtys == length is_buy) bad_length
 
 -- the public search: a refusal gives no figure
 unfoldable pub find_uniform_clear_price : List Bool → List ℕ → List ℕ → (reserve reference : ℕ) → Found
 find_uniform_clear_price is_buy limits qtys reserve reference =
-    cond (eqb (price_refusal is_buy limits qtys) 0)
-    (priced (executed is_buy limits qtys) (clear_price is_buy limits qtys reserve reference))
-    (refused (price_refusal is_buy limits qtys))
+    if price_refusal is_buy limits qtys == 0
+    then priced (executed is_buy limits qtys) (clear_price is_buy limits qtys reserve reference)
+    else refused (price_refusal is_buy limits qtys)

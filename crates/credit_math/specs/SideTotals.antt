@@ -1,5 +1,5 @@
 -- The table of side totals that the price search reads (document 02, ticket 2).
-use Rattle.std.specs.Prelude.{Bool, cond, List, [], ◌++◌, map, ℕ, ◌-◌, ltb, eqb, length, replicate}
+use Rattle.std.specs.Prelude.{Bool, if◌then◌else◌, List, [], ◌++◌, map, ℕ, ◌-◌, nat_lt, ◌==◌, length, replicate}
 use Rattle.laws.specs.Sort.{sort, dedup}
 use Rattle.wide.specs.Value.{value}
 use Rattle.credit_math.specs.Limits.{max_orders}
@@ -19,7 +19,7 @@ table_of t = record { count = t.count; limits = t.limits; buys = map value t.buy
 
 -- 'exactly the orders' limits, ascending, each once': of all orders handed in
 unfoldable pub distinct_limits : List ℕ → List ℕ
-distinct_limits limits = dedup (sort ltb limits)
+distinct_limits limits = dedup (sort nat_lt limits)
 
 -- a column: what stands beside each limit, and zeros behind the last row
 unfoldable pub column : (ℕ → ℕ) → List ℕ → List ℕ
@@ -37,4 +37,4 @@ module _ (is_buy : List Bool) (limits qtys : List ℕ) where
 
   -- the table of the orders; no row where they are refused, as the price search refuses them
   unfoldable pub side_totals : Table
-  side_totals = totals_at (cond (eqb (price_refusal is_buy limits qtys) 0) (distinct_limits limits) [])
+  side_totals = totals_at (if price_refusal is_buy limits qtys == 0 then distinct_limits limits else [])

@@ -1,6 +1,6 @@
 -- What the private functions keep on the way: forms that are cheap to compute. proofs/Price.antt, proofs/Search.antt and proofs/Sorted.antt show that they come to
 -- the definitions of Price.antt and ProRata.antt.
-use Rattle.std.specs.Prelude.{◌≡◌, Bool, true, cond, List, ℕ, ◌+◌, ◌<◌, ◌≤◌, min, ltb, leb, length, get_or}
+use Rattle.std.specs.Prelude.{◌≡◌, Bool, true, if◌then◌else◌, List, ℕ, ◌+◌, ◌<◌, ◌≤◌, min, nat_lt, nat_le, length, slice_index}
 use Rattle.laws.specs.Sums.{only, count, sum_of}
 use Rattle.laws.specs.Lex.{lex}
 use Rattle.wide.specs.Value.{value, apart}
@@ -31,7 +31,7 @@ pub record QuoteOf (p buys sells : ℕ) (q : Quote) : Type 0 where
 
 -- the price kept
 abbrev pub best : Kept → Best
-best k = cond k.found (at k.quote.price) none
+best k = if k.found then at k.quote.price else none
 
 abbrev pub AllQuoted : List Bool → List ℕ → List ℕ → Kept → Type 0
 AllQuoted is_buy limits qtys k = k.found ≡ true → Quoted is_buy limits qtys k.quote
@@ -40,7 +40,7 @@ AllQuoted is_buy limits qtys k = k.found ≡ true → Quoted is_buy limits qtys 
 unfoldable pub ahead : (a b : Quote) (reference : ℕ) → Bool
 ahead a b reference =
     lex (value b.executed) (value a.executed)
-    (lex (value a.imbalance) (value b.imbalance) (lex (apart a.price reference) (apart b.price reference) (ltb a.price b.price)))
+    (lex (value a.imbalance) (value b.imbalance) (lex (apart a.price reference) (apart b.price reference) (nat_lt a.price b.price)))
 
 -- a quote kept
 abbrev pub keeping : Quote → Kept
@@ -48,10 +48,10 @@ keeping q = record { found = true; quote = q }
 
 -- what is kept after a quote that counts, and after any quote
 abbrev pub chosen : Kept → Quote → (reference : ℕ) → Kept
-chosen k q reference = cond k.found (cond (ahead q k.quote reference) (keeping q) k) (keeping q)
+chosen k q reference = if k.found then (if ahead q k.quote reference then keeping q else k) else keeping q
 
 unfoldable pub after : Kept → Quote → (reserve reference : ℕ) → Kept
-after k q reserve reference = cond (leb reserve q.price) (cond (ltb 0 (value q.executed)) (chosen k q reference) k) k
+after k q reserve reference = if nat_le reserve q.price then (if nat_lt 0 (value q.executed) then chosen k q reference else k) else k
 
 -- what the search keeps, whatever orders the table is of: the source's price, with its figures
 abbrev pub Searched : SideTotals → (reserve reference : ℕ) → Kept → Type 0
@@ -76,11 +76,11 @@ pub record Allotting (ids qtys : List ℕ) (total sum : ℕ) : Type 0 where
 
 -- how many quantities are not 0
 abbrev pub filled : (qtys : List ℕ) → ℕ
-filled qtys = count (λ i. ltb 0 (get_or qtys i 0)) (length qtys)
+filled qtys = count (λ i. nat_lt 0 (slice_index qtys i)) (length qtys)
 
 -- place j comes before place i: the larger quantity, then the lower id, then the earlier place
 unfoldable pub before : (ids qtys : List ℕ) (j i : ℕ) → Bool
-before ids qtys j i = lex (get_or qtys i 0) (get_or qtys j 0) (lex (get_or ids j 0) (get_or ids i 0) (ltb j i))
+before ids qtys j i = lex (slice_index qtys i) (slice_index qtys j) (lex (slice_index ids j) (slice_index ids i) (nat_lt j i))
 
 -- what a rank goes by: an id for each of at most max_orders quantities, and one of their places
 pub record Ranked (ids qtys : List ℕ) (i : ℕ) : Type 0 where
@@ -94,4 +94,4 @@ rank ids qtys i = count (λ j. before ids qtys j i) (length qtys)
 
 -- a lot: the share, and one unit more where fewer places than the residue come before
 unfoldable pub lot : (ids qtys : List ℕ) (total i : ℕ) → ℕ
-lot ids qtys total i = share total (sum_of qtys) (get_or qtys i 0) + only (ltb (rank ids qtys i) (residue qtys total)) 1
+lot ids qtys total i = share total (sum_of qtys) (slice_index qtys i) + only (nat_lt (rank ids qtys i) (residue qtys total)) 1

@@ -1,5 +1,5 @@
 // Uniform-price clearing and pro-rata lots, on parallel slices of 64-bit numbers.
-ghost use Rattle.std.specs.Prelude.{◌≡◌, false, ◌+◌, ◌-◌, ◌*◌, ◌/◌, ◌<◌, ◌≤◌, length, ltb, eqb};
+ghost use Rattle.std.specs.Prelude.{◌≡◌, false, ◌+◌, ◌-◌, ◌*◌, ◌/◌, ◌<◌, ◌≤◌, length, nat_lt, ◌==◌};
 ghost use Rattle.laws.specs.Sums.{only, sum_of};
 ghost use Rattle.laws.specs.Lists.{table};
 ghost use Rattle.laws.specs.Lex.{lex};
@@ -165,7 +165,7 @@ fn is_better(a: Quote, b: Quote, reference: u64) -> bool
 
 // Whether p is nearer to the reference than q, or as near and lower.
 fn is_nearer(p: u64, q: u64, reference: u64) -> bool
-    ensures { result ≡ lex (apart p reference) (apart q reference) (ltb p q) }
+    ensures { result ≡ lex (apart p reference) (apart q reference) (nat_lt p q) }
 {
     below(abs_diff(p, reference), abs_diff(q, reference), p < q)
 }
@@ -296,7 +296,7 @@ fn exact_share(quotient: u64) -> Share
 
 // Whether the total is all of the sum.
 fn is_whole(total: u64, sum_qty: Wide) -> bool
-    ensures { result ≡ eqb (value sum_qty) total }
+    ensures { result ≡ (value sum_qty == total) }
 {
     if wide::fits_word(sum_qty) {
         return sum_qty.lo == total;
@@ -307,7 +307,7 @@ fn is_whole(total: u64, sum_qty: Wide) -> bool
 // The unit of place i, where its turn comes while some are left. To a quantity of 0 none can fall, and no rank is worked out.
 fn unit_of(left: u64, ids: &[u64], qtys: &[u64], i: usize) -> u64
     requires { Ranked ids.now qtys.now i × (left ≤ filled qtys.now) }
-    ensures { result ≡ only (ltb (rank ids.now qtys.now i) left) 1 }
+    ensures { result ≡ only (nat_lt (rank ids.now qtys.now i) left) 1 }
 {
     if qtys[i] == 0 {
         return 0;
@@ -338,7 +338,7 @@ fn rank_of(ids: &[u64], qtys: &[u64], i: usize) -> u64
 
 // Whether place j comes before place i: the larger quantity, then the lower id, then the earlier place.
 fn comes_before(qty_j: u64, id_j: u64, j: usize, qty_i: u64, id_i: u64, i: usize) -> bool
-    ensures { result ≡ lex qty_i qty_j (lex id_j id_i (ltb j i)) }
+    ensures { result ≡ lex qty_i qty_j (lex id_j id_i (nat_lt j i)) }
 {
     below(qty_i, qty_j, below(id_j, id_i, j < i))
 }

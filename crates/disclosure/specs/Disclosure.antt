@@ -1,5 +1,5 @@
 -- `band` and `disclose`.
-use Rattle.std.specs.Prelude.{cond, ℕ, ◌*◌, ◌/◌, max, leb, eqb}
+use Rattle.std.specs.Prelude.{if◌then◌else◌, ℕ, ◌*◌, ◌/◌, max, nat_le, ◌==◌}
 use Rattle.disclosure.specs.declared.Banded.{Banded}
 use Rattle.disclosure.specs.declared.Disclosed.{Disclosed}
 
@@ -17,19 +17,19 @@ banded price band_bps = price / width price band_bps * width price band_bps
 
 -- 'Public band ..' | 9 band above 10,000
 unfoldable pub band_answer : (price band_bps : ℕ) → Banded
-band_answer price band_bps = cond (leb band_bps max_band) (record { refusal = 0; price = banded price band_bps }) (record { refusal = 9; price = 0 })
+band_answer price band_bps = if nat_le band_bps max_band then record { refusal = 0; price = banded price band_bps } else record { refusal = 9; price = 0 }
 
 -- policies: Public 0, Banded 1, AggregateOnly 2, DataRoom 3; 'undisclosed 0'
 unfoldable pub shown : (policy band_bps price volume : ℕ) → Disclosed
 shown policy band_bps price volume =
-    cond (eqb policy 0) (record { refusal = 0; price = price; volume = volume })
-    (cond (eqb policy 1) (record { refusal = 0; price = banded price band_bps; volume = volume })
-    (cond (eqb policy 2) (record { refusal = 0; price = 0; volume = volume })
-    (record { refusal = 0; price = 0; volume = 0 })))
+    if policy == 0 then record { refusal = 0; price = price; volume = volume }
+    else (if policy == 1 then record { refusal = 0; price = banded price band_bps; volume = volume }
+    else (if policy == 2 then record { refusal = 0; price = 0; volume = volume }
+    else record { refusal = 0; price = 0; volume = 0 }))
 
 -- 'Public .. disclose' | 9 band above 10,000; then 4 a policy above 3; a refusal gives no figure
 unfoldable pub disclose_answer : (policy band_bps price volume : ℕ) → Disclosed
 disclose_answer policy band_bps price volume =
-    cond (leb band_bps max_band)
-    (cond (leb policy 3) (shown policy band_bps price volume) (record { refusal = 4; price = 0; volume = 0 }))
-    (record { refusal = 9; price = 0; volume = 0 })
+    if nat_le band_bps max_band
+    then (if nat_le policy 3 then shown policy band_bps price volume else record { refusal = 4; price = 0; volume = 0 })
+    else record { refusal = 9; price = 0; volume = 0 }

@@ -1,5 +1,5 @@
 -- 'Escrow cover when a file is read': document 02, ticket 1, and the source's `gross`.
-use Rattle.std.specs.Prelude.{Bool, cond, not, ◌||◌, ℕ, ◌*◌, ◌^◌, leb, eqb}
+use Rattle.std.specs.Prelude.{Bool, if◌then◌else◌, not, ◌||◌, ℕ, ◌*◌, ◌^◌, nat_le, ◌==◌}
 use Rattle.laws.specs.Checks.{unless}
 use Rattle.credit_math.specs.Rounding.{ceil_div}
 use Rattle.book.specs.Book.{buy_side}
@@ -13,11 +13,11 @@ gross qty price decimals = ceil_div (qty * price) (10 ^ decimals)
 
 -- what an order's escrow must cover: of a buy that amount at its limit, of a sell the quantity
 unfoldable pub needed : (decimals : ℕ) → Row → ℕ
-needed decimals row = cond (eqb row.side buy_side) (gross row.qty row.limit decimals) row.qty
+needed decimals row = if row.side == buy_side then gross row.qty row.limit decimals else row.qty
 
 -- 'must be at most its escrow'; an unrevealed order is not tested. An escrow has 64 bits, so an amount above 64 bits, where `gross` fails, is not covered
 unfoldable pub covered : (decimals : ℕ) → Row → Bool
-covered decimals row = not row.revealed || leb (needed decimals row) row.escrowed
+covered decimals row = not row.revealed || nat_le (needed decimals row) row.escrowed
 
 -- 'An uncovered order gets 31'; after `SH` none is tested
 unfoldable pub cover_refusal : Cover → Row → ℕ
@@ -30,4 +30,4 @@ max_decimals = 19
 
 unfoldable pub decimals_refusal : Cover → ℕ
 decimals_refusal Unasked = 0
-decimals_refusal (Decimals decimals) = unless (leb decimals max_decimals) 4
+decimals_refusal (Decimals decimals) = unless (nat_le decimals max_decimals) 4

@@ -1,5 +1,5 @@
 -- A call's events are a list; the struct holds it from its first place on.
-use Rattle.std.specs.Prelude.{cond, List, [], ◌∷◌, ◌++◌, map, ℕ, ◌+◌, ◌-◌, min, ltb, length, get_or, take, set, replicate}
+use Rattle.std.specs.Prelude.{if◌then◌else◌, List, [], ◌∷◌, ◌++◌, map, ℕ, ◌+◌, ◌-◌, min, nat_lt, length, slice_index_or, take, set, replicate}
 use Rattle.book.specs.Limits.{max_fills}
 use Rattle.events.specs.declared.Event.{Event}
 use Rattle.events.specs.declared.Event.TheVariants.{Nothing}
@@ -27,11 +27,11 @@ events_in es = map (λ l. l.event) (take (min es.count max_events) es.lines)
 
 -- one event more, where there is room
 unfoldable pub pushed : Events → Event → Events
-pushed es e = cond (ltb es.count max_events) (record { lines = set es.lines es.count (line_of e); count = es.count + 1 }) es
+pushed es e = if nat_lt es.count max_events then record { lines = set es.lines es.count (line_of e); count = es.count + 1 } else es
 
 -- the struct that holds a list of at most two
 abbrev pub event_pair : List Event → EventPair
-event_pair l = record { count = length l; first = get_or l 0 Nothing; second = get_or l 1 Nothing }
+event_pair l = record { count = length l; first = slice_index_or l 0 Nothing; second = slice_index_or l 1 Nothing }
 
 -- the events that it holds
 abbrev pub pair_events : EventPair → List Event

@@ -1,5 +1,5 @@
 -- What the private functions keep on the way: the lots ahead of a hand, and the fills that they come to.
-use Rattle.std.specs.Prelude.{◌≡◌, cond, List, [], ◌∷◌, ◌++◌, ℕ, ◌-◌, ◌≤◌, ltb, eqb, length, get_or, drop}
+use Rattle.std.specs.Prelude.{◌≡◌, if◌then◌else◌, List, [], ◌∷◌, ◌++◌, ℕ, ◌-◌, ◌≤◌, nat_lt, ◌==◌, length, slice_index, drop}
 use Rattle.laws.specs.Sums.{only}
 use Rattle.laws.specs.Lists.{table, keep}
 use Rattle.credit_math.specs.Limits.{max_orders}
@@ -13,7 +13,7 @@ pub record Even (lots sides : List ℕ) : Type 0 where
 
 -- lots above 0
 unfoldable pub nonzero : List ℕ → List ℕ
-nonzero lots = keep (λ lot. ltb 0 lot) lots
+nonzero lots = keep (λ lot. nat_lt 0 lot) lots
 
 -- the fills that two lines of lots come to, zero lots left out
 unfoldable pub fills_of : (buys sells : List ℕ) → ℕ
@@ -21,7 +21,7 @@ fills_of buys sells = distinct (partial_sums (nonzero buys) ++ partial_sums (non
 
 -- order i's lot if it is of that side, else 0
 unfoldable pub lot_on : (side : ℕ) (lots sides : List ℕ) (i : ℕ) → ℕ
-lot_on side lots sides i = only (eqb (get_or sides i 0) side) (get_or lots i 0)
+lot_on side lots sides i = only (slice_index sides i == side) (slice_index lots i)
 
 -- what is ahead of a hand on its side: what is left in it, and the lots from its place on
 unfoldable pub ahead : (side : ℕ) (lots sides : List ℕ) → Hand → List ℕ
@@ -35,4 +35,4 @@ pub record Taken (side : ℕ) (lots sides : List ℕ) (hand taken : Hand) : Type
 
 -- what a fill leaves of a lot
 abbrev pub less_other : (lot other : ℕ) → ℕ
-less_other lot other = cond (eqb other 0) 0 (lot - other)
+less_other lot other = if other == 0 then 0 else lot - other

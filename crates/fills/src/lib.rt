@@ -1,7 +1,7 @@
 // The number of fills, before the crank: from the lots alone.
 #![tactic(auto)]
 
-ghost use Rattle.std.specs.Prelude.{◌≡◌, ◌≤◌, length, get_or, leb};
+ghost use Rattle.std.specs.Prelude.{◌≡◌, ◌≤◌, length, slice_index, nat_le};
 ghost use Rattle.laws.specs.Search.{every};
 ghost use Rattle.fills.specs.FillCount.{fill_count, fill_count_refusal, fill_count_answer};
 ghost use Rattle.fills.specs.Steps.{Even, less_other, Taken};
@@ -50,7 +50,7 @@ fn refusal_of(lots: &[u64], sides: &[u8]) -> u8
 
 // Each side is 0 or 1.
 fn known_sides(sides: &[u8]) -> bool
-    ensures { result ≡ every (λ i. leb (get_or sides.now i 0) 1) (length sides.now) }
+    ensures { result ≡ every (λ i. nat_le (slice_index sides.now i) 1) (length sides.now) }
 {
     let mut i = 0;
     while i < sides.len() {

@@ -1,5 +1,5 @@
 -- A row of the table of side totals as plain numbers.
-use Rattle.std.specs.Prelude.{◌≡◌, ℕ, get_or}
+use Rattle.std.specs.Prelude.{◌≡◌, ℕ, slice_index}
 use Rattle.wide.specs.Value.{digits}
 use Rattle.credit_math.specs.SideTotals.{Table}
 use Rattle.harness_entries.specs.declared.TotalsRow.{TotalsRow}
@@ -14,4 +14,4 @@ pub record RowSays (refusal count limit buy sell : ℕ) (r : TotalsRow) : Type 0
 
 -- row k of a table, and past its columns zeros
 abbrev pub RowOf : (refusal : ℕ) → Table → (k : ℕ) → TotalsRow → Type 0
-RowOf refusal t k r = RowSays refusal t.count (get_or t.limits k 0) (get_or t.buys k 0) (get_or t.sells k 0) r
+RowOf refusal t k r = RowSays refusal t.count (slice_index t.limits k) (slice_index t.buys k) (slice_index t.sells k) r

@@ -1,5 +1,5 @@
 -- `investor_exclusion`: 'only other live orders with the same nonzero id count; an id of zeros matches none'.
-use Rattle.std.specs.Prelude.{Bool, cond, not, ◌&&◌, List, ℕ, ◌+◌, min, ltb, eqb}
+use Rattle.std.specs.Prelude.{Bool, if◌then◌else◌, not, ◌&&◌, List, ℕ, ◌+◌, min, nat_lt, ◌==◌}
 use Rattle.laws.specs.Sums.{sum_below, only}
 use Rattle.laws.specs.Search.{some}
 use Rattle.laws.specs.Lists.{same}
@@ -18,11 +18,11 @@ module _ (orders : List Order) (n : ℕ) where
   -- order j is another live order, beside order i, with the same nonzero id
   unfoldable pub is_other : (i : ℕ) (id : List ℕ) (j : ℕ) → Bool
   is_other i id j =
-      not (eqb j i) && is_live (order_in orders j) && not (same (order_in orders j).investor_id no_investor) && same (order_in orders j).investor_id id
+      not (j == i) && is_live (order_in orders j) && not (same (order_in orders j).investor_id no_investor) && same (order_in orders j).investor_id id
 
   -- 'An opposite side gives SelfTrade' (a count above the limit is read as the limit)
   unfoldable pub self_trade : (i : ℕ) (id : List ℕ) → Bool
-  self_trade i id = some (λ j. is_other i id j && not (eqb (order_in orders j).side (order_in orders i).side)) (min n max_orders)
+  self_trade i id = some (λ j. is_other i id j && not ((order_in orders j).side == (order_in orders i).side)) (min n max_orders)
 
   -- 'own escrow plus those of the buys among them'
   unfoldable pub cash_of : (i : ℕ) (id : List ℕ) → ℕ
@@ -31,5 +31,5 @@ module _ (orders : List Order) (n : ℕ) where
   -- 'failing that, a buy whose own escrow plus those .. exceeds `max_cash` gives InvestorCapExceeded'; 0 where there is none
   unfoldable pub investor_exclusion : (i : ℕ) (id : List ℕ) (max_cash : ℕ) → ℕ
   investor_exclusion i id max_cash =
-      cond (self_trade i id) self_trade_exclusion
-      (cond (is_buy (order_in orders i) && ltb max_cash (cash_of i id)) cap_exclusion 0)
+      if self_trade i id then self_trade_exclusion
+      else (if is_buy (order_in orders i) && nat_lt max_cash (cash_of i id) then cap_exclusion else 0)

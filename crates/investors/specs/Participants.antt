@@ -1,5 +1,5 @@
 -- `distinct_participants`: 'a wallet whose first order has a nonzero id counts as that id, any other as itself'.
-use Rattle.std.specs.Prelude.{Bool, false, cond, not, ◌&&◌, ◌||◌, List, [], ◌∷◌, ℕ, zero, suc, min, ltb, eqb, length}
+use Rattle.std.specs.Prelude.{Bool, false, if◌then◌else◌, not, ◌&&◌, ◌||◌, List, [], ◌∷◌, ℕ, zero, suc, min, nat_lt, ◌==◌, length}
 use Rattle.laws.specs.Search.{first}
 use Rattle.laws.specs.Lists.{same}
 use Rattle.laws.specs.Bits.{is_set}
@@ -26,11 +26,11 @@ contains [] p = false
 contains (x ∷ seen) p = same_participant x p || contains seen p
 
 abbrev pub noted : List Participant → Participant → List Participant
-noted seen p = cond (contains seen p) seen (p ∷ seen)
+noted seen p = if contains seen p then seen else p ∷ seen
 
 -- 'Fills of quantity 0 and skipped fills don't count'
 unfoldable pub moved : List Fill → (skipped i : ℕ) → Bool
-moved fills skipped i = not (eqb (fill_in fills i).qty 0) && not (is_set skipped i)
+moved fills skipped i = not ((fill_in fills i).qty == 0) && not (is_set skipped i)
 
 module _ (orders : List Order) (n : ℕ) where
   -- a wallet's first order among the first n; past them where it has none
@@ -40,15 +40,18 @@ module _ (orders : List Order) (n : ℕ) where
   -- who a wallet counts as
   unfoldable pub participant : (key : List ℕ) → Participant
   participant key =
-      cond (ltb (first_order key) (min n max_orders) && not (same (order_in orders (first_order key)).investor_id no_investor))
-      (investor (order_in orders (first_order key)).investor_id) (wallet key)
+      if nat_lt (first_order key) (min n max_orders) && not (same (order_in orders (first_order key)).investor_id no_investor)
+      then investor (order_in orders (first_order key)).investor_id
+      else wallet key
 
   module _ (fills : List Fill) (skipped : ℕ) where
     -- those seen in the first m fills, buyer before seller
     unfoldable pub seen : ℕ → List Participant
     seen zero = []
     seen (suc m) =
-        cond (moved fills skipped m) (noted (noted (seen m) (participant (fill_in fills m).buyer)) (participant (fill_in fills m).seller)) (seen m)
+        if moved fills skipped m
+        then noted (noted (seen m) (participant (fill_in fills m).buyer)) (participant (fill_in fills m).seller)
+        else seen m
 
     -- their number (a count above the limit is read as the limit)
     unfoldable pub distinct_participants : ℕ → ℕ

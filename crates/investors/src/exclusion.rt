@@ -1,5 +1,5 @@
 // `investor_exclusion`: the checks of an order against the other live orders of its investor.
-ghost use Rattle.std.specs.Prelude.{◌≡◌, true, false, not, ◌&&◌, ◌+◌, ◌<◌, ◌≤◌, eqb};
+ghost use Rattle.std.specs.Prelude.{◌≡◌, true, false, not, ◌&&◌, ◌+◌, ◌<◌, ◌≤◌, ◌==◌};
 ghost use Rattle.laws.specs.Sums.{only};
 ghost use Rattle.laws.specs.Lists.{same};
 ghost use Rattle.wide.specs.Value.{value};
@@ -88,7 +88,7 @@ fn trades_itself(
 
 // Another live order of the investor's, on the other side.
 fn opposes(o: Order, j: usize, index: usize, id: [u8; 16], side: u8) -> bool
-    ensures { result ≡ (not (eqb j index) && is_live o && not (same o.investor_id no_investor) && same o.investor_id id) && not (eqb o.side side) }
+    ensures { result ≡ (not (j == index) && is_live o && not (same o.investor_id no_investor) && same o.investor_id id) && not (o.side == side) }
 {
     if is_other(o, j, index, id) {
         return o.side != side;
@@ -98,7 +98,7 @@ fn opposes(o: Order, j: usize, index: usize, id: [u8; 16], side: u8) -> bool
 
 // Whether o, order j, is another live order of the investor.
 fn is_other(o: Order, j: usize, index: usize, id: [u8; 16]) -> bool
-    ensures { result ≡ not (eqb j index) && is_live o && not (same o.investor_id no_investor) && same o.investor_id id }
+    ensures { result ≡ not (j == index) && is_live o && not (same o.investor_id no_investor) && same o.investor_id id }
 {
     let own = o.investor_id;
     if j == index {
@@ -130,7 +130,7 @@ fn cash_of(orders: [Order; MAX_ORDERS], n: usize, index: usize, id: [u8; 16], es
 
 // The cash of another live buy of the investor's.
 fn cash_in(o: Order, j: usize, index: usize, id: [u8; 16]) -> u64
-    ensures { result ≡ only ((not (eqb j index) && is_live o && not (same o.investor_id no_investor) && same o.investor_id id) && is_buy o) o.escrowed }
+    ensures { result ≡ only ((not (j == index) && is_live o && not (same o.investor_id no_investor) && same o.investor_id id) && is_buy o) o.escrowed }
 {
     if is_other(o, j, index, id) {
         if o.side == 0 {

@@ -1,5 +1,5 @@
 // `distinct_participants`: who traded, for the print.
-ghost use Rattle.std.specs.Prelude.{◌≡◌, true, false, not, ◌&&◌, ◌+◌, ◌*◌, ◌/◌, ◌%◌, ◌<◌, ◌≤◌, min, eqb};
+ghost use Rattle.std.specs.Prelude.{◌≡◌, true, false, not, ◌&&◌, ◌+◌, ◌*◌, ◌/◌, ◌%◌, ◌<◌, ◌≤◌, min, ◌==◌};
 ghost use Rattle.laws.specs.Sums.{count};
 ghost use Rattle.laws.specs.Search.{some};
 ghost use Rattle.laws.specs.Lists.{same};
@@ -86,7 +86,7 @@ fn places_of(
 // Who stands at place k, of its fill f.
 fn place_of(orders: [Order; MAX_ORDERS], n: usize, f: Fill, skipped: u32, k: usize) -> Place
     requires { k < 2 * max_fills }
-    ensures { result ≡ record { moved = not (eqb f.qty 0) && not (is_set skipped (k / 2)); who = party_of orders n (wallet_at f k) } }
+    ensures { result ≡ record { moved = not (f.qty == 0) && not (is_set skipped (k / 2)); who = party_of orders n (wallet_at f k) } }
 {
     let w = wallet_at(f, k);
     let who = party_of(orders, n, w);
@@ -100,7 +100,7 @@ fn place_of(orders: [Order; MAX_ORDERS], n: usize, f: Fill, skipped: u32, k: usi
 // A fill with a quantity that was not skipped.
 fn has_moved(f: Fill, skipped: u32, i: u32) -> bool
     requires { i < max_fills }
-    ensures { result ≡ not (eqb f.qty 0) && not (is_set skipped i) }
+    ensures { result ≡ not (f.qty == 0) && not (is_set skipped i) }
 {
     if f.qty == 0 {
         return false;

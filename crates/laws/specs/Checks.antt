@@ -1,11 +1,11 @@
 -- Lists of checks: the number of the first that fails, 0 where all pass.
-use Rattle.std.specs.Prelude.{Bool, cond, ℕ, eqb}
+use Rattle.std.specs.Prelude.{Bool, if◌then◌else◌, ℕ, ◌==◌}
 
 -- one check: the number n unless the test holds
 unfoldable pub unless : Bool → ℕ → ℕ
-unless test n = cond test 0 n
+unless test n = if test then 0 else n
 
 -- checks in order
 infixr 30 ◌then◌
 unfoldable pub ◌then◌ : ℕ → ℕ → ℕ
-m then n = cond (eqb m 0) n m
+m then n = if m == 0 then n else m

@@ -1,5 +1,5 @@
 -- Lists of numbers: tables, membership, equality.
-use Rattle.std.specs.Prelude.{Bool, true, false, cond, ◌&&◌, ◌||◌, ◌⊎◌, ◌≡◌, List, [], ◌∷◌, ℕ, zero, suc, eqb}
+use Rattle.std.specs.Prelude.{Bool, true, false, if◌then◌else◌, ◌&&◌, ◌||◌, ◌⊎◌, ◌≡◌, List, [], ◌∷◌, ℕ, zero, suc, ◌==◌}
 
 -- f 0, f 1, .., f (n - 1)
 unfoldable pub table : {A : Type 0} → (ℕ → A) → ℕ → List A
@@ -9,7 +9,7 @@ table f (suc n) = f 0 ∷ table (λ i. f (suc i)) n
 -- those that pass, in their order
 unfoldable pub keep : {A : Type 0} → (A → Bool) → List A → List A
 keep p [] = []
-keep p (x ∷ l) = cond (p x) (x ∷ keep p l) (keep p l)
+keep p (x ∷ l) = if p x then x ∷ keep p l else keep p l
 
 -- n stands in the list
 abbrev pub Member : ℕ → List ℕ → Type 0
@@ -19,11 +19,11 @@ Member n (x ∷ l) = (n ≡ x) ⊎ Member n l
 -- the same as a test
 unfoldable pub has : List ℕ → ℕ → Bool
 has [] n = false
-has (x ∷ l) n = eqb x n || has l n
+has (x ∷ l) n = x == n || has l n
 
 -- two lists are the same
 unfoldable pub same : List ℕ → List ℕ → Bool
 same [] [] = true
 same [] (y ∷ k) = false
 same (x ∷ l) [] = false
-same (x ∷ l) (y ∷ k) = eqb x y && same l k
+same (x ∷ l) (y ∷ k) = x == y && same l k

@@ -1,10 +1,10 @@
 -- Searches and tests over the numbers below a count.
-use Rattle.std.specs.Prelude.{Bool, true, false, cond, ◌&&◌, ◌||◌, ℕ, zero, suc, ltb}
+use Rattle.std.specs.Prelude.{Bool, true, false, if◌then◌else◌, ◌&&◌, ◌||◌, ℕ, zero, suc, nat_lt}
 
 -- the least number below n that passes; n where none does
 unfoldable pub first : (ℕ → Bool) → ℕ → ℕ
 first p zero = zero
-first p (suc n) = cond (ltb (first p n) n) (first p n) (cond (p n) n (suc n))
+first p (suc n) = if nat_lt (first p n) n then first p n else (if p n then n else suc n)
 
 -- every number below n passes
 unfoldable pub every : (ℕ → Bool) → ℕ → Bool

@@ -1,5 +1,5 @@
 -- 'Listing': the lines of a record, and the last line.
-use Rattle.std.specs.Prelude.{Bool, cond, List, [], ◌∷◌, ◌++◌, ℕ, ◌+◌, ◌*◌}
+use Rattle.std.specs.Prelude.{Bool, if◌then◌else◌, List, [], ◌∷◌, ◌++◌, ℕ, ◌+◌, ◌*◌}
 use Rattle.std.specs.Int.Count.{ones}
 use Rattle.laws.specs.Sums.{only}
 use Rattle.octets.specs.Decimal.{decimal, max_digits}
@@ -48,7 +48,9 @@ record_lines number (e ∷ es) = event_lines number (e ∷ es)
 -- 'Last: `end P S`, phase and the number of skipped fills counted from the bitmap, or `end none` without an accepted header'
 unfoldable pub end_line : (accepted : Bool) (phase skipped : ℕ) → List ℕ
 end_line accepted phase skipped =
-    cond accepted ((end_word ++ fields (phase ∷ ones skipped ∷ [])) ++ (newline ∷ [])) ((end_word ++ (space ∷ none_word)) ++ (newline ∷ []))
+    if accepted
+    then (end_word ++ fields (phase ∷ ones skipped ∷ [])) ++ (newline ∷ [])
+    else (end_word ++ (space ∷ none_word)) ++ (newline ∷ [])
 
 -- the most letters of a word, and figures of a line
 abbrev pub max_letters : ℕ

@@ -1,5 +1,5 @@
 -- What a writer answers, and what it leaves in the bytes that it is lent.
-use Rattle.std.specs.Prelude.{◌≡◌, cond, List, ◌++◌, ℕ, ◌+◌, leb, length, take, drop}
+use Rattle.std.specs.Prelude.{◌≡◌, if◌then◌else◌, List, ◌++◌, ℕ, ◌+◌, nat_le, length, take, drop}
 use Rattle.octets.specs.declared.writing.Written.{Written}
 
 -- a text written over a part, from a place on
@@ -8,11 +8,11 @@ splice at text part = take at part ++ (text ++ drop (at + length text) part)
 
 -- 'Line writer | 27 lines longer than their part': the length, or the refusal
 unfoldable pub written : (text part : List ℕ) → Written
-written text part = cond (leb (length text) (length part)) (record { refusal = 0; len = length text }) (record { refusal = 27; len = 0 })
+written text part = if nat_le (length text) (length part) then record { refusal = 0; len = length text } else record { refusal = 27; len = 0 }
 
 -- the text at the start of the part; where it is longer, the part as it was
 unfoldable pub after : (text part : List ℕ) → List ℕ
-after text part = cond (leb (length text) (length part)) (splice 0 text part) part
+after text part = if nat_le (length text) (length part) then splice 0 text part else part
 
 -- both, of a text
 pub record Writes (text : List ℕ) (r : Written) (before left : List ℕ) : Type 0 where
@@ -21,5 +21,5 @@ pub record Writes (text : List ℕ) (r : Written) (before left : List ℕ) : Typ
 
 -- a text written at a place where it fits, and the place after it; else the part as it was, and the same place
 pub record PutAt (text : List ℕ) (at next : ℕ) (before left : List ℕ) : Type 0 where
-  pub place : next ≡ cond (leb (at + length text) (length before)) (at + length text) at
-  pub bytes : left ≡ cond (leb (at + length text) (length before)) (splice at text before) before
+  pub place : next ≡ (if nat_le (at + length text) (length before) then at + length text else at)
+  pub bytes : left ≡ (if nat_le (at + length text) (length before) then splice at text before else before)

@@ -1,5 +1,5 @@
 // Little-endian fields of a record. Bytes past the end are read as 0, so nothing is asked of the caller.
-ghost use Rattle.std.specs.Prelude.{◌≡◌, ℕ, ◌+◌, ◌*◌, ◌^◌, ◌<◌, ◌≤◌, length, get_or};
+ghost use Rattle.std.specs.Prelude.{◌≡◌, ℕ, ◌+◌, ◌*◌, ◌^◌, ◌<◌, ◌≤◌, length, slice_index};
 ghost use Rattle.octets.specs.Bytes.{word, bytes_at, signed, time_at, flag_at};
 
 pub fn u8_at(rec: &[u8], at: usize) -> u8
@@ -131,7 +131,7 @@ pub fn id_at(rec: &[u8], at: usize) -> [u8; 16]
 
 // The byte i places after at.
 fn byte_past(rec: &[u8], at: usize, i: usize) -> u8
-    ensures { result ≡ get_or rec.now (at + i) 0 }
+    ensures { result ≡ slice_index rec.now (at + i) }
 {
     if at < rec.len() {
         if i < rec.len() - at {

@@ -1,6 +1,6 @@
 // Texts and numbers in base ten, written into bytes that are lent. Where one does not fit, the bytes are left as they were, so nothing is asked of
 // the caller.
-ghost use Rattle.std.specs.Prelude.{◌≡◌, cond, [], ◌∷◌, ◌+◌, ◌/◌, ◌%◌, ◌<◌, ◌≤◌, leb, length};
+ghost use Rattle.std.specs.Prelude.{◌≡◌, if◌then◌else◌, [], ◌∷◌, ◌+◌, ◌/◌, ◌%◌, ◌<◌, ◌≤◌, nat_le, length};
 ghost use Rattle.octets.specs.Decimal.{decimal, max_digits};
 ghost use Rattle.octets.specs.Writing.{Writes, PutAt};
 ghost use Rattle.octets.specs.Puts.{Puts};
@@ -27,7 +27,7 @@ pub fn put_text(out: &mut [u8], text: &[u8]) -> Written
 
 // The answer to a text of that length, where there is room for so many bytes.
 fn answer_for(len: usize, room: usize) -> Written
-    ensures { result ≡ cond (leb len room) (record { refusal = 0; len = len }) (record { refusal = 27; len = 0 }) }
+    ensures { result ≡ (if nat_le len room then record { refusal = 0; len = len } else record { refusal = 27; len = 0 }) }
 {
     if room < len {
         return Written {

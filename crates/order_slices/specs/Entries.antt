@@ -1,6 +1,6 @@
 -- What the private functions keep on the way: the records' fields copied into arrays of 16. proofs/Columns.antt shows that the first n of each array are
 -- the fields of n records.
-use Rattle.std.specs.Prelude.{false, cond, List, ℕ, zero, suc, leb, take, set, get_or, replicate}
+use Rattle.std.specs.Prelude.{false, if◌then◌else◌, List, ℕ, zero, suc, nat_le, take, set, slice_index_or, replicate}
 use Rattle.credit_math.specs.Limits.{max_orders}
 use Rattle.credit_math.specs.Error.{bad_length}
 use Rattle.credit_math.specs.Price.{Found, refused, find_uniform_clear_price}
@@ -28,19 +28,19 @@ bid_at e i b = record { is_buy = e.is_buy; limits = e.limits; ids = set e.ids i 
 -- the first k records of a list copied, each to its place by `put`
 unfoldable pub copied : {A : Type 0} (put : Entries → ℕ → A → Entries) (d : A) → List A → (k : ℕ) → Entries
 copied put d l zero = no_entries
-copied put d l (suc k) = put (copied put d l k) k (get_or l k d)
+copied put d l (suc k) = put (copied put d l k) k (slice_index_or l k d)
 
 -- how many of n are copied
 abbrev pub kept_of : (n : ℕ) → ℕ
-kept_of n = cond (leb n max_orders) n 0
+kept_of n = if nat_le n max_orders then n else 0
 
 -- the cores on the first n entries; 30 over 16
 abbrev pub search_entries : Entries → (n reserve reference : ℕ) → Found
 search_entries e n reserve reference =
-    cond (leb n max_orders) (find_uniform_clear_price (take n e.is_buy) (take n e.limits) (take n e.qtys) reserve reference) (refused bad_length)
+    if nat_le n max_orders then find_uniform_clear_price (take n e.is_buy) (take n e.limits) (take n e.qtys) reserve reference else refused bad_length
 
 abbrev pub entries_refusal : Entries → (n room total : ℕ) → ℕ
-entries_refusal e n room total = cond (leb n max_orders) (pro_rata_refusal (take n e.ids) (take n e.qtys) room total) bad_length
+entries_refusal e n room total = if nat_le n max_orders then pro_rata_refusal (take n e.ids) (take n e.qtys) room total else bad_length
 
 abbrev pub allocate_entries : Entries → (n total : ℕ) (out : List ℕ) → List ℕ
-allocate_entries e n total out = cond (leb n max_orders) (allocate_pro_rata (take n e.ids) (take n e.qtys) total out) out
+allocate_entries e n total out = if nat_le n max_orders then allocate_pro_rata (take n e.ids) (take n e.qtys) total out else out

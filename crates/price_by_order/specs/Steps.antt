@@ -1,5 +1,5 @@
 -- What the functions keep on the way. proofs/ByOrder.antt and proofs/Walk.antt show that it comes to the price search of credit_math.
-use Rattle.std.specs.Prelude.{◌≡◌, Bool, cond, not, ◌&&◌, List, ℕ, ltb, leb}
+use Rattle.std.specs.Prelude.{◌≡◌, Bool, if◌then◌else◌, not, ◌&&◌, List, ℕ, nat_lt, nat_le}
 use Rattle.laws.specs.Sums.{only}
 use Rattle.laws.specs.Lex.{lex}
 use Rattle.wide.specs.Value.{value, apart}
@@ -10,11 +10,11 @@ use Rattle.price_by_order.specs.declared.Kept.TheVariants.{Nothing, Found}
 
 -- what an order adds to a side's total at p
 unfoldable pub added : (buys is_buy : Bool) (limit qty p : ℕ) → ℕ
-added buys is_buy limit qty p = cond buys (only (is_buy && leb p limit) qty) (only (not is_buy && leb limit p) qty)
+added buys is_buy limit qty p = if buys then only (is_buy && nat_le p limit) qty else only (not is_buy && nat_le limit p) qty
 
 -- the total of a side at p
 abbrev pub side_total : List Bool → List ℕ → List ℕ → (buys : Bool) (p : ℕ) → ℕ
-side_total is_buy limits qtys buys p = cond buys (buy is_buy limits qtys p) (sell is_buy limits qtys p)
+side_total is_buy limits qtys buys p = if buys then buy is_buy limits qtys p else sell is_buy limits qtys p
 
 -- a quote holds its price's figures
 pub record Quoted (is_buy : List Bool) (limits qtys : List ℕ) (q : Quote) : Type 0 where
@@ -34,17 +34,17 @@ AllQuoted is_buy limits qtys (Found q) = Quoted is_buy limits qtys q
 unfoldable pub ahead : (a b : Quote) (reference : ℕ) → Bool
 ahead a b reference =
     lex (value b.executed) (value a.executed)
-    (lex (value a.imbalance) (value b.imbalance) (lex (apart a.price reference) (apart b.price reference) (ltb a.price b.price)))
+    (lex (value a.imbalance) (value b.imbalance) (lex (apart a.price reference) (apart b.price reference) (nat_lt a.price b.price)))
 
 -- what is kept after a quote that counts, and after any quote
 abbrev pub chosen : Kept → Quote → (reference : ℕ) → Kept
 chosen Nothing q reference = Found q
-chosen (Found o) q reference = cond (ahead q o reference) (Found q) (Found o)
+chosen (Found o) q reference = if ahead q o reference then Found q else Found o
 
 unfoldable pub after : Kept → Quote → (reserve reference : ℕ) → Kept
-after k q reserve reference = cond (leb reserve q.price) (cond (ltb 0 (value q.executed)) (chosen k q reference) k) k
+after k q reserve reference = if nat_le reserve q.price then (if nat_lt 0 (value q.executed) then chosen k q reference else k) else k
 
 -- the best limit, going through the orders in their own sequence
 unfoldable pub by_order : List Bool → List ℕ → List ℕ → (reserve reference : ℕ) → Best
 by_order is_buy limits qtys reserve reference =
-    walk (λ p. leb reserve p && executes is_buy limits qtys p) (better is_buy limits qtys reference) none limits
+    walk (λ p. nat_le reserve p && executes is_buy limits qtys p) (better is_buy limits qtys reference) none limits

@@ -1,7 +1,7 @@
 // The price search as it was before the table of side totals: each limit's totals added up anew. For the benchmark alone, which sets it beside the one of now.
 #![tactic(auto)]
 
-ghost use Rattle.std.specs.Prelude.{◌≡◌, ◌&&◌, ltb, leb};
+ghost use Rattle.std.specs.Prelude.{◌≡◌, ◌&&◌, nat_lt, nat_le};
 ghost use Rattle.laws.specs.Lex.{lex};
 ghost use Rattle.wide.specs.Value.{value, apart};
 ghost use Rattle.credit_math.specs.Price.{found, find_uniform_clear_price, executes, better, step};
@@ -118,7 +118,7 @@ fn tried(
     reference: u64,
 ) -> Kept
     requires { Book is_buy.now limits.now qtys.now × AllQuoted is_buy.now limits.now qtys.now kept }
-    ensures { (best result ≡ step (λ x. leb reserve x && executes is_buy.now limits.now qtys.now x)
+    ensures { (best result ≡ step (λ x. nat_le reserve x && executes is_buy.now limits.now qtys.now x)
         (better is_buy.now limits.now qtys.now reference) (best kept) p)
         × AllQuoted is_buy.now limits.now qtys.now result }
 {
@@ -172,7 +172,7 @@ fn is_better(a: Quote, b: Quote, reference: u64) -> bool
 
 // Whether p is nearer to the reference than q, or as near and lower.
 fn is_nearer(p: u64, q: u64, reference: u64) -> bool
-    ensures { result ≡ lex (apart p reference) (apart q reference) (ltb p q) }
+    ensures { result ≡ lex (apart p reference) (apart q reference) (nat_lt p q) }
 {
     let c = abs_diff(p, reference);
     let d = abs_diff(q, reference);

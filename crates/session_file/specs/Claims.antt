@@ -1,5 +1,5 @@
 -- What ties a file to demand 3, what its escrows cover, and its refusals to their places: proofs/Course.antt, proofs/Refusals.antt.
-use Rattle.std.specs.Prelude.{◌≡◌, ℕ, cond, ◌≢◌, ◌⊎◌, List, [], ◌∷◌, ◌++◌, ℤ, ◌==◌}
+use Rattle.std.specs.Prelude.{◌≡◌, ℕ, if◌then◌else◌, ◌≢◌, ◌⊎◌, List, [], ◌∷◌, ◌++◌, ℤ, ◌==◌}
 use Rattle.laws.specs.Lists.{Member}
 use Rattle.book.specs.declared.Params.{Params}
 use Rattle.book.specs.declared.Given.{Given}
@@ -21,7 +21,7 @@ use Rattle.session_file.specs.File.{State, start, file_refusal, made, said_of}
 -- the records before the one that ends the file
 abbrev pub before_end : State → List Read → List Read
 before_end f [] = []
-before_end f (x ∷ l) = cond (file_refusal f x == 0) (x ∷ before_end (made f x) l) []
+before_end f (x ∷ l) = if file_refusal f x == 0 then x ∷ before_end (made f x) l else []
 
 -- what a file carries on after records that let it go on
 abbrev pub made_all : State → List Read → State
@@ -110,7 +110,7 @@ abbrev pub place_numbers : Cover → Read → List ℕ
 place_numbers cover (refused number) = 1 ∷ 2 ∷ 3 ∷ 4 ∷ []
 place_numbers cover (header p g asked) = 4 ∷ 5 ∷ 6 ∷ []
 place_numbers cover (order row) = order_numbers cover
-place_numbers cover (call c) = cond (arguments_refusal c == 0) (numbers_of c) (4 ∷ [])
+place_numbers cover (call c) = if arguments_refusal c == 0 then numbers_of c else 4 ∷ []
 
 -- each `refused R` line of a file has a number of its place: of the records that let the file go on, and of the one that ends it
 abbrev pub RefusedByPlace : Type 0

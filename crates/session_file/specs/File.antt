@@ -1,5 +1,5 @@
 -- What the records of a file make, what is said of each, and the listing.
-use Rattle.std.specs.Prelude.{ℕ, ◌+◌, false, cond, not, List, [], ◌∷◌, ◌++◌, length, pos, ◌==◌, nat_le}
+use Rattle.std.specs.Prelude.{ℕ, ◌+◌, false, if◌then◌else◌, not, List, [], ◌∷◌, ◌++◌, length, pos, ◌==◌, nat_le}
 use Rattle.book.specs.Book.{no_wallet}
 use Rattle.escrow.specs.declared.Cover.{Cover}
 use Rattle.escrow.specs.declared.Cover.TheVariants.{Unasked}
@@ -53,20 +53,20 @@ unfoldable pub said_by : State → Read → List Event
 said_by f (refused number) = Refused number ∷ []
 said_by f (header p g cover) = Opened ∷ []
 said_by f (order row) = Ordered f.session.order_count ∷ []
-said_by f (call c) = cond (refusal f.session c == 0) (events f.session c) (Refused (refusal f.session c) ∷ [])
+said_by f (call c) = if refusal f.session c == 0 then events f.session c else Refused (refusal f.session c) ∷ []
 
 -- what is said of any record
 unfoldable pub said_of : State → Read → List Event
-said_of f x = cond (file_refusal f x == 0) (said_by f x) (Refused (file_refusal f x) ∷ [])
+said_of f x = if file_refusal f x == 0 then said_by f x else Refused (file_refusal f x) ∷ []
 
 -- the records in turn: what is said of each, and what the file has made at the end. 'After a file refusal's line only the `end` line follows'
 abbrev pub told : State → List Read → List (List Event)
 told f [] = []
-told f (x ∷ l) = said_of f x ∷ cond (file_refusal f x == 0) (told (made f x) l) []
+told f (x ∷ l) = said_of f x ∷ (if file_refusal f x == 0 then told (made f x) l else [])
 
 abbrev pub left : State → List Read → State
 left f [] = f
-left f (x ∷ l) = cond (file_refusal f x == 0) (left (made f x) l) f
+left f (x ∷ l) = if file_refusal f x == 0 then left (made f x) l else f
 
 -- 'A line starts with its record's number from 0'
 abbrev pub numbered : (number : ℕ) → List (List Event) → List ℕ
@@ -84,6 +84,6 @@ max_input = 65536
 -- the listing of a file: 'For 26 the program prints `0 refused 26`, `end none`'
 unfoldable pub listing : List ℕ → List ℕ
 listing s =
-    cond (nat_le (length s) max_input)
-    (numbered 0 (told start (reads s)) ++ last_line (left start (reads s)))
-    (numbered 0 ((Refused 26 ∷ []) ∷ []) ++ last_line start)
+    if nat_le (length s) max_input
+    then numbered 0 (told start (reads s)) ++ last_line (left start (reads s))
+    else numbered 0 ((Refused 26 ∷ []) ∷ []) ++ last_line start

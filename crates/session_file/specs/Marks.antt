@@ -1,5 +1,5 @@
 -- 'Session file': the marks, and what each says of its record.
-use Rattle.std.specs.Prelude.{ℕ, ◌+◌, ◌*◌, Bool, cond, ◌&&◌, List, [], ◌∷◌, ◌==◌, nat_le, nat_lt}
+use Rattle.std.specs.Prelude.{ℕ, ◌+◌, ◌*◌, Bool, if◌then◌else◌, ◌&&◌, List, [], ◌∷◌, ◌==◌, nat_le, nat_lt}
 use Prim.Native.Char.{Char, code}
 use Rattle.session_file.specs.declared.records.Mark.{Mark}
 use Rattle.session_file.specs.declared.records.Mark.TheVariants.{Unknown, SH, SI, OR, SC, CL, AL, RX, RC, ST, SK, FN, EX}
@@ -10,19 +10,19 @@ letters a b = code a + 256 * code b
 
 unfoldable pub mark_of : ℕ → Mark
 mark_of m =
-    cond (m == (letters "S" "H")) SH
-    (cond (m == (letters "S" "I")) SI
-    (cond (m == (letters "O" "R")) OR
-    (cond (m == (letters "S" "C")) SC
-    (cond (m == (letters "C" "L")) CL
-    (cond (m == (letters "A" "L")) AL
-    (cond (m == (letters "R" "X")) RX
-    (cond (m == (letters "R" "C")) RC
-    (cond (m == (letters "S" "T")) ST
-    (cond (m == (letters "S" "K")) SK
-    (cond (m == (letters "F" "N")) FN
-    (cond (m == (letters "E" "X")) EX
-    Unknown)))))))))))
+    if m == letters "S" "H" then SH
+    else (if m == letters "S" "I" then SI
+    else (if m == letters "O" "R" then OR
+    else (if m == letters "S" "C" then SC
+    else (if m == letters "C" "L" then CL
+    else (if m == letters "A" "L" then AL
+    else (if m == letters "R" "X" then RX
+    else (if m == letters "R" "C" then RC
+    else (if m == letters "S" "T" then ST
+    else (if m == letters "S" "K" then SK
+    else (if m == letters "F" "N" then FN
+    else (if m == letters "E" "X" then EX
+    else Unknown)))))))))))
 
 -- the kinds of records, in the order in which they stand in a file
 abbrev pub no_kind : ℕ
@@ -65,4 +65,4 @@ shape_of EX = shape call_kind 10 []
 -- 'One `SH` first, then `OR` records, then calls': a header, `SH` or `SI`, stands first, any other record after a header and after no record of a later kind.
 -- before is the kind of the record before, no_kind at the start
 unfoldable pub in_place : (before kind : ℕ) → Bool
-in_place before kind = cond (kind == header_kind) (before == no_kind) (nat_lt 0 before && nat_le before kind)
+in_place before kind = if kind == header_kind then before == no_kind else nat_lt 0 before && nat_le before kind

@@ -1,5 +1,5 @@
 -- What the private functions of a listing part by part hand each other. proofs/PartByPart.antt shows that they come to Parts.antt.
-use Rattle.std.specs.Prelude.{◌≡◌, ℕ, suc, ◌+◌, ◌-◌, true, false, cond, List, [], ◌∷◌, length, ◌==◌}
+use Rattle.std.specs.Prelude.{◌≡◌, ℕ, suc, ◌+◌, ◌-◌, true, false, if◌then◌else◌, List, [], ◌∷◌, length, ◌==◌}
 use Rattle.laws.specs.Sums.{only}
 use Rattle.events.specs.Events.{packed, events_in, pair_events}
 use Rattle.events.specs.declared.Event.TheVariants.{Opened, Refused}
@@ -20,7 +20,7 @@ use Rattle.session_file.specs.Parts.{state_at, cursor_at, after_record, part_at,
 
 -- what falls with each part
 abbrev pub parts_left : List ℕ → Cursor → ℕ
-parts_left s t = cond t.ended 0 (suc (only t.too_long 1 + (length s - t.place.at)))
+parts_left s t = if t.ended then 0 else suc (only t.too_long 1 + (length s - t.place.at))
 
 -- 26 is said, and nothing is read
 abbrev pub whole_refused : Cursor → (end : ℕ) → Next
@@ -45,8 +45,8 @@ pub record NextOf (s : List ℕ) (t : Cursor) (r : Next) : Type 0 where
 -- the session after a record and what is said of it, by the way in which it is run
 unfoldable pub handled_by : Session → Step → Change → Fields → Handled
 handled_by x t c f =
-    cond (t.refusal == 0)
-    (cond t.opens (record { session = fresh f.params f.given; said = packed (Opened ∷ []) })
-    (cond c.undecided (record { session = (applied x f.call).session; said = said_all (applied x f.call) })
-    (record { session = changed x c; said = packed (pair_events c.events) })))
-    (record { session = x; said = packed (Refused t.refusal ∷ []) })
+    if t.refusal == 0
+    then (if t.opens then record { session = fresh f.params f.given; said = packed (Opened ∷ []) }
+    else (if c.undecided then record { session = (applied x f.call).session; said = said_all (applied x f.call) }
+    else record { session = changed x c; said = packed (pair_events c.events) }))
+    else record { session = x; said = packed (Refused t.refusal ∷ []) }

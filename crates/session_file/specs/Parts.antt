@@ -1,5 +1,5 @@
 -- A listing part by part. proofs/PartByPart.antt shows that the parts in turn are the listing.
-use Rattle.std.specs.Prelude.{◌≡◌, ℕ, zero, suc, ◌+◌, ◌%◌, ◌^◌, ◌<◌, ◌≤◌, Bool, true, false, cond, List, [], ◌∷◌, ◌++◌, length, drop, ◌==◌, nat_lt}
+use Rattle.std.specs.Prelude.{◌≡◌, ℕ, zero, suc, ◌+◌, ◌%◌, ◌^◌, ◌<◌, ◌≤◌, Bool, true, false, if◌then◌else◌, List, [], ◌∷◌, ◌++◌, length, drop, ◌==◌, nat_lt}
 use Rattle.escrow.specs.declared.Cover.TheVariants.{Unasked}
 use Rattle.events.specs.declared.Event.{Event}
 use Rattle.events.specs.declared.Event.TheVariants.{Refused}
@@ -35,10 +35,10 @@ after_record s p x =
     let r : Read = read_next p.stage rest in
     record {
       place =
-          cond (file_refusal f r == 0)
-          (record { at = p.at + (shape_at rest).width; stage = (shape_at rest).kind; cover = (made f r).cover })
-          (record { at = length s; stage = p.stage; cover = p.cover });
-      session = cond (file_refusal f r == 0) (made f r).session x;
+          if file_refusal f r == 0
+          then record { at = p.at + (shape_at rest).width; stage = (shape_at rest).kind; cover = (made f r).cover }
+          else record { at = length s; stage = p.stage; cover = p.cover };
+      session = if file_refusal f r == 0 then (made f r).session else x;
       said = said_of f r;
     }
 
@@ -53,10 +53,10 @@ begun too_long = cursor_at first_place unopened 0 too_long false
 -- the next part: 'For 26 .. `0 refused 26`, `end none`'; a record's lines while bytes are left; then the last line, and nothing after it
 unfoldable pub part_at : List ℕ → Cursor → List ℕ
 part_at s t =
-    cond t.ended []
-    (cond t.too_long (record_lines t.number (Refused 26 ∷ []))
-    (cond (nat_lt t.place.at (length s)) (record_lines t.number (after_record s t.place t.session).said)
-    (last_line (state_at t.place t.session))))
+    if t.ended then []
+    else (if t.too_long then record_lines t.number (Refused 26 ∷ [])
+    else (if nat_lt t.place.at (length s) then record_lines t.number (after_record s t.place t.session).said
+    else last_line (state_at t.place t.session)))
 
 -- the number of the next record, in 64 bits
 abbrev pub next_number : ℕ → ℕ
@@ -65,16 +65,16 @@ next_number n = (n + 1) % 2 ^ 64
 -- where the listing stands after that part
 unfoldable pub cursor_after : List ℕ → Cursor → Cursor
 cursor_after s t =
-    cond t.ended t
-    (cond t.too_long (cursor_at (record { at = length s; stage = t.place.stage; cover = t.place.cover }) t.session (next_number t.number) false false)
-    (cond (nat_lt t.place.at (length s))
-    (cursor_at (after_record s t.place t.session).place (after_record s t.place t.session).session (next_number t.number) false false)
-    (cursor_at t.place t.session t.number false true)))
+    if t.ended then t
+    else (if t.too_long then cursor_at (record { at = length s; stage = t.place.stage; cover = t.place.cover }) t.session (next_number t.number) false false
+    else (if nat_lt t.place.at (length s)
+    then cursor_at (after_record s t.place t.session).place (after_record s t.place t.session).session (next_number t.number) false false
+    else cursor_at t.place t.session t.number false true))
 
 -- what putting the next part does: a part that does not fit leaves the listing where it stood, and with room for any record's lines every part fits
 pub record PartPut (s : List ℕ) (t : Cursor) (r : Part) (before left : List ℕ) : Type 0 where
   pub writes : Writes (part_at s t) r.written before left
-  pub cursor : r.cursor ≡ cond (r.written.refusal == 0) (cursor_after s t) t
+  pub cursor : r.cursor ≡ (if r.written.refusal == 0 then cursor_after s t else t)
   pub fits : max_record ≤ length before → r.written.refusal ≡ 0
 
 -- n parts in turn

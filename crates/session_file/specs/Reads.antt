@@ -1,5 +1,5 @@
 -- The records of a file, in order, from its bytes alone.
-use Rattle.std.specs.Prelude.{ℕ, zero, suc, cond, List, [], ◌∷◌, length, take, drop, ◌==◌, nat_le, nat_lt}
+use Rattle.std.specs.Prelude.{ℕ, zero, suc, if◌then◌else◌, List, [], ◌∷◌, length, take, drop, ◌==◌, nat_le, nat_lt}
 use Rattle.laws.specs.Checks.{unless, ◌then◌}
 use Rattle.session_file.specs.declared.records.Mark.{Mark}
 use Rattle.octets.specs.Bytes.{word}
@@ -33,17 +33,17 @@ reading_refusal before rest =
 -- what reading finds next: the refusal, or the record's fields
 unfoldable pub read_next : (before : ℕ) (rest : List ℕ) → Read
 read_next before rest =
-    cond (reading_refusal before rest == 0) (fields_of (mark_at rest) (record_at rest)) (refused (reading_refusal before rest))
+    if reading_refusal before rest == 0 then fields_of (mark_at rest) (record_at rest) else refused (reading_refusal before rest)
 
 -- the records that are left, while bytes are left; after a refusal nothing is read. n is at least the number of bytes left, and each record
 -- takes one or more
 unfoldable pub reads_from : (n before : ℕ) (rest : List ℕ) → List Read
 reads_from zero before rest = []
 reads_from (suc n) before rest =
-    cond (nat_lt 0 (length rest))
-    (read_next before rest
-    ∷ cond (reading_refusal before rest == 0) (reads_from n (shape_at rest).kind (drop (shape_at rest).width rest)) [])
-    []
+    if nat_lt 0 (length rest)
+    then read_next before rest
+    ∷ (if reading_refusal before rest == 0 then reads_from n (shape_at rest).kind (drop (shape_at rest).width rest) else [])
+    else []
 
 -- the records of a file; a refusal of reading is the last
 abbrev pub reads : List ℕ → List Read

@@ -1,5 +1,5 @@
 -- What the code hands on while it runs a file: a record, and what is to be done with it. proofs/ shows that it is what File.antt says of the record.
-use Rattle.std.specs.Prelude.{◌≡◌, ℕ, ◌+◌, ◌≤◌, Bool, true, false, cond, not, ◌&&◌, List, [], ◌∷◌, length, drop, ◌==◌}
+use Rattle.std.specs.Prelude.{◌≡◌, ℕ, ◌+◌, ◌≤◌, Bool, true, false, if◌then◌else◌, not, ◌&&◌, List, [], ◌∷◌, length, drop, ◌==◌}
 use Rattle.laws.specs.Checks.{◌then◌}
 use Rattle.events.specs.Events.{packed}
 use Rattle.events.specs.declared.Event.TheVariants.{Refused}
@@ -32,13 +32,14 @@ record_in s p =
 -- the next place of a file, after a record of these fields and that width
 unfoldable pub place_after : Place → Fields → (width : ℕ) (ends : Bool) (end : ℕ) → Place
 place_after p f width ends end =
-    cond ends (record { at = end; stage = p.stage; cover = p.cover })
-    (record { at = p.at + width; stage = f.kind; cover = cond (f.kind == header_kind) f.cover p.cover })
+    if ends then record { at = end; stage = p.stage; cover = p.cover }
+    else record { at = p.at + width; stage = f.kind; cover = if f.kind == header_kind then f.cover else p.cover }
 
 -- what ends the file before the session is looked at
 unfoldable pub early_refusal : (refusal : ℕ) → Fields → ℕ
 early_refusal n f =
-    n then cond (f.kind == header_kind) (header_refusal f.params f.given f.cover) (cond (f.kind == call_kind) (record_arguments f.call) 0)
+    n then (if f.kind == header_kind then header_refusal f.params f.given f.cover
+    else (if f.kind == call_kind then record_arguments f.call else 0))
 
 -- what the record changes
 abbrev pub change_in : Session → Cover → Fields → Change
@@ -54,14 +55,14 @@ opening = record { refusal = 0; ends = false; opens = true }
 -- what is to be done with a record, where its change is refused by a number
 unfoldable pub step_of : (refusal : ℕ) → Fields → (changing : ℕ) → Step
 step_of n f changing =
-    cond (early_refusal n f == 0)
-    (cond (f.kind == header_kind) opening
-    (record { refusal = changing; ends = f.kind == order_kind && not (changing == 0); opens = false }))
-    (stops (early_refusal n f))
+    if early_refusal n f == 0
+    then (if f.kind == header_kind then opening
+    else record { refusal = changing; ends = f.kind == order_kind && not (changing == 0); opens = false })
+    else stops (early_refusal n f)
 
 -- what is said of an answer: the refusal, or the events
 unfoldable pub said_all : Answer → Events
-said_all a = cond (a.refusal == 0) a.events (packed (Refused a.refusal ∷ []))
+said_all a = if a.refusal == 0 then a.events else packed (Refused a.refusal ∷ [])
 
 -- the listing of a file that is not too long, where it fits
 pub record Ran (input : List ℕ) (r : Written) (before after : List ℕ) : Type 0 where

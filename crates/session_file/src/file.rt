@@ -1,5 +1,5 @@
 // What a record of a file does to the session, and what is said of it.
-ghost use Rattle.std.specs.Prelude.{◌≡◌, ◌+◌, ◌^◌, ◌<◌, false, cond, [], ◌∷◌, ◌==◌};
+ghost use Rattle.std.specs.Prelude.{◌≡◌, ◌+◌, ◌^◌, ◌<◌, false, if◌then◌else◌, [], ◌∷◌, ◌==◌};
 ghost use Rattle.session_file.specs.Marks.{header_kind};
 ghost use Rattle.session_file.specs.File.{unopened};
 ghost use Rattle.events.specs.Events.{event_pair};
@@ -55,7 +55,7 @@ pub(crate) fn place_after(place: Place, f: Fields, width: usize, ends: bool, end
 
 // What is asked of escrows after a record of that kind: a header says it anew.
 fn asked(kind: u8, by_record: Cover, before: Cover) -> Cover
-    ensures { result ≡ cond (kind == header_kind) by_record before }
+    ensures { result ≡ (if kind == header_kind then by_record else before) }
 {
     if kind == records::HEADER {
         return by_record;

@@ -1,7 +1,7 @@
 // Session files: read record by record, run, and listed.
 #![tactic(auto)]
 
-ghost use Rattle.std.specs.Prelude.{◌≡◌, ◌+◌, ◌^◌, ◌<◌, ◌≤◌, not, eqb, length, replicate, if◌then◌else◌, ◌==◌};
+ghost use Rattle.std.specs.Prelude.{◌≡◌, ◌+◌, ◌^◌, ◌<◌, ◌≤◌, not, ◌==◌, length, replicate, if◌then◌else◌};
 ghost use Rattle.octets.specs.Writing.{Writes};
 ghost use Rattle.listing.specs.Lines.{end_line};
 ghost use Rattle.session_file.specs.File.{max_input};
@@ -107,7 +107,7 @@ fn put_last(out: &mut [u8], stage: u8, s: Session) -> Written
 // The length of the whole listing, from where its last line stands and what its writer answered; or the refusal.
 fn ended(at: usize, last: Written) -> Written
     requires { at + last.len < 2 ^ 64 }
-    ensures { result ≡ (if eqb last.refusal 0 then (record { refusal = 0; len = at + last.len }) else last) }
+    ensures { result ≡ (if last.refusal == 0 then (record { refusal = 0; len = at + last.len }) else last) }
 {
     if last.refusal != 0 {
         return last;

@@ -1,6 +1,6 @@
 // The words of an answer. What a function writes is free in its contract: no contract can say what is written, and the comparison reads every
 // byte of it.
-ghost use Rattle.std.specs.Prelude.{◌≡◌, not, ◌||◌, ◌<◌, eqb};
+ghost use Rattle.std.specs.Prelude.{◌≡◌, not, ◌||◌, ◌<◌, ◌==◌};
 ghost use Rattle.events.specs.Events.{max_events};
 
 use auction_engine::Session;
@@ -40,7 +40,7 @@ fn hex(rt: &impl Output, byte: u8) {
 
 // The oracle says no session for 9 and 4.
 pub fn is_shown(refusal: u8) -> bool
-    ensures { result ≡ not (eqb refusal 9 || eqb refusal 4) }
+    ensures { result ≡ not (refusal == 9 || refusal == 4) }
 {
     if refusal == refusals::OVER_LIMIT {
         return false;
