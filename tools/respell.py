@@ -13,7 +13,7 @@ import re
 import sys
 
 WORD = re.compile(r'[^\s(){}\[\].;,@"«»`]+')
-# names that would take a definition's name: the law gets another
+# names that would take a definition's name: the law, the case or the field gets another
 APART = {
     "bit-or": "bit_of_or",
     "bought-at": "bought_at_lem",

@@ -1,12 +1,12 @@
 #!/usr/bin/env python3
-"""Writes definitions and clauses in the kit's words of now, each another name for the old one.
+"""Writes definitions and clauses in the kit's words of now, each another name or an abbreviation of the old one.
 
     eqb a b          a == b                     cond t a b      if t then a else b
     leb a b, ltb     nat_le a b, nat_lt         get_or l i 0    slice_index l i, else slice_index_or l i d
 
 usage: tools/reword.py [TOP]
 
-It turns specs/, the clauses of src/ and the edits of either; proofs keep their words. A second run changes nothing. `rt fmt` comes after it.
+It turns specs/, the clauses of src/ and the edits of specs/; proofs keep their words. A second run changes nothing. `rt fmt` comes after it.
 """
 
 import os
@@ -28,6 +28,7 @@ OPERATORS = set(
     "≡ ≢ ≤ < + - * / % ^ ∷ ++ && || → ↔ × ⊎ = == then λ +ℤ -ℤ : let in where else if ∙".split()
 )
 INNER = {"λ", "if", ":", "let", "where", "="}
+TIGHTER = set("+ - * / % ^".split())
 BEFORE_TEST = {"&&", "||", "=", ";", ",", ".", "if", "then", "else"}
 AFTER_TEST = {"&&", "||", ";", ",", "then", "else"}
 
@@ -85,18 +86,26 @@ def past_argument(items, at):
     return at
 
 
-def bare(items, operators, kept):
-    """An argument's text, without its brackets where nothing in it asks for them."""
+def bare(items, loose):
+    """An argument's text, without its brackets where no operator in it is among the loose ones."""
     group = items[0][1]
     if len(items) == 1 and not is_word(group):
         inside = {x for _, x in group.items if is_word(x) and x in OPERATORS | {","}}
-        if "," not in inside and not inside & kept and (operators or not inside):
+        if not inside & loose:
             return written(group.items).strip()
     return written([("", group)] + items[1:])
 
 
+def bare_else(items):
+    """The same of what stands behind `else`, where a further choice needs none."""
+    group = items[0][1]
+    if len(items) == 1 and not is_word(group) and group.items[0][1] == "if":
+        return written(group.items).strip()
+    return bare(items, INNER | {"then", ","})
+
+
 def neighbours(items, start, end):
-    """The word before, and the word after on the same line; None where the group or the line ends."""
+    """The word before, and the word after on the same line; None where the group or the line ends. No operator begins a line behind a test or a choice here."""
     before = items[start - 1][1] if start else None
     after = items[end][1] if end < len(items) and "\n" not in items[end][0] else None
     return before, after
@@ -119,8 +128,16 @@ def turn_test(items, at):
         return
     before, after = neighbours(items, at, b)
     free = stands_free(before, BEFORE_TEST) and stands_free(after, AFTER_TEST)
-    left, right = bare(items[at + 1 : a], False, INNER), bare(items[a:b], False, INNER)
+    loose = (OPERATORS | {","}) - TIGHTER
+    left, right = bare(items[at + 1 : a], loose), bare(items[a:b], loose)
     put(items, at, b, f"{left} == {right}", free)
+
+
+def turn_operand(items, at):
+    """Of a test that is written `a == b` already, b without brackets that it does not need."""
+    end = past_argument(items, at + 1)
+    if end is not None:
+        put(items, at + 1, end, bare(items[at + 1 : end], (OPERATORS | {","}) - TIGHTER), True)
 
 
 def turn_choice(items, at):
@@ -131,7 +148,8 @@ def turn_choice(items, at):
         return
     before, after = neighbours(items, at, c)
     free = stands_free(before, {"=", ";", ",", "."}) and stands_free(after, {";", ","})
-    parts = [bare(x, True, INNER | {"then"}) for x in (items[at + 1 : a], items[a:b], items[b:c])]
+    parts = [bare(x, INNER | {"then", ","}) for x in (items[at + 1 : a], items[a:b])]
+    parts.append(bare_else(items[b:c]))
     spaces = [items[k][0] if "\n" in items[k][0] else " " for k in (a, b)]
     put(items, at, c, f"if {parts[0]}{spaces[0]}then {parts[1]}{spaces[1]}else {parts[2]}", free)
 
@@ -146,6 +164,9 @@ def turn_index(items, at):
         items[at] = (items[at][0], "slice_index_or")
 
 
+TURNS = {"==": turn_operand, "eqb": turn_test, "cond": turn_choice, "get_or": turn_index}
+
+
 def turn(items):
     for _, x in items:
         if not is_word(x):
@@ -155,8 +176,8 @@ def turn(items):
         space, x = items[at]
         if is_word(x) and x in WORDS:
             items[at] = (space, WORDS[x])
-        elif x in ("eqb", "cond", "get_or"):
-            {"eqb": turn_test, "cond": turn_choice, "get_or": turn_index}[x](items, at)
+        elif is_word(x) and x in TURNS:
+            TURNS[x](items, at)
         at += 1
 
 

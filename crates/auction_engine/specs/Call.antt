@@ -56,10 +56,10 @@ expire_kind = 8
 unfoldable pub admits : (phase kind : ℕ) → Bool
 admits phase kind =
     if nat_le kind clear_kind then phase == 0 || phase == 1 || phase == 7
-    else (if kind == allocate_kind then phase == 2
-    else (if nat_le kind close_kind then phase == 3
-    else (if nat_le kind finish_kind then phase == 4
-    else kind == expire_kind && not (phase == 5 || phase == 6))))
+    else if kind == allocate_kind then phase == 2
+    else if nat_le kind close_kind then phase == 3
+    else if nat_le kind finish_kind then phase == 4
+    else kind == expire_kind && not (phase == 5 || phase == 6)
 
 -- 'Library call, any' | 9 over 16 orders or 24 fills, band above 10,000, forced with a reserve, reveal_end + window outside 64 bits
 unfoldable pub limits_refusal : Session → ℕ

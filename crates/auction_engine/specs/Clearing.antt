@@ -39,12 +39,12 @@ with_lots orders lots (suc n) = set (with_lots orders lots n) n (with_lot (order
 -- a price: its figures and lots, in phase Allocating; a failure: phase Failed
 unfoldable pub cleared_by : Session → Outcome → Session
 cleared_by s found =
-    if found.failed == 0
-    then remake s
+    if found.failed == 0 then
+    (remake s
     (record { clear_price = found.price; cleared_volume = found.volume; reserve_price = floor_of s.params s.given; reference_mark = s.given.reference })
     allocating s.rofr_qty s.fills_settled s.skipped_fills
     (with_lots s.orders found.lots s.order_count)
-    s.fills s.fill_count
+    s.fills s.fill_count)
     else at_phase s failed
 
 abbrev pub clear_effect : Session → Session

@@ -68,14 +68,14 @@ answer s c =
 unfoldable pub call_of : CallRecord → Call
 call_of r =
     if r.kind == screen_kind then screen r.now r.order r.side r.verdict r.has_id r.id
-    else (if r.kind == clear_kind then clear r.now
-    else (if r.kind == allocate_kind then allocate r.now r.max_fills
-    else (if r.kind == exercise_kind then exercise r.now r.wallet r.fill r.qty
-    else (if r.kind == close_kind then close r.now r.wallet
-    else (if r.kind == settle_kind then settle r.fill
-    else (if r.kind == skip_kind then skip r.now r.fill r.reason
-    else (if r.kind == finish_kind then finish r.now
-    else expire r.now)))))))
+    else if r.kind == clear_kind then clear r.now
+    else if r.kind == allocate_kind then allocate r.now r.max_fills
+    else if r.kind == exercise_kind then exercise r.now r.wallet r.fill r.qty
+    else if r.kind == close_kind then close r.now r.wallet
+    else if r.kind == settle_kind then settle r.fill
+    else if r.kind == skip_kind then skip r.now r.fill r.reason
+    else if r.kind == finish_kind then finish r.now
+    else expire r.now
 
 -- 4 for an argument of a call record: a kind above 8 is outside its values too
 unfoldable pub record_arguments : CallRecord → ℕ

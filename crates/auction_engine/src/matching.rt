@@ -153,7 +153,7 @@ fn next_pair(orders: [Order; Session::MAX_ORDERS], n: usize) -> Pair
 // The first due order of the places up to i, from that of the places before i; the number of places where there is none.
 fn first_due(found: usize, due: bool, i: usize) -> usize
     requires { i < max_orders }
-    ensures { result ≡ (if nat_lt found i then found else (if due then i else i + 1)) }
+    ensures { result ≡ (if nat_lt found i then found else if due then i else i + 1) }
 {
     if found < i {
         return found;

@@ -82,5 +82,5 @@ floor_of p g = if p.forced then 0 else g.reserve
 unfoldable pub compute_clear : Params → Given → List Order → ℕ → Outcome
 compute_clear p g orders n =
     if nat_lt (length (live_orders orders n)) p.min_reveals then failed_by too_few_reveals
-    else (if not p.forced && not g.mark then failed_by mark_unavailable
-    else allotted orders n (searched orders n (floor_of p g) g.reference))
+    else if not p.forced && not g.mark then failed_by mark_unavailable
+    else allotted orders n (searched orders n (floor_of p g) g.reference)

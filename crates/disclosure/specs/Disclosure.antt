@@ -23,9 +23,9 @@ band_answer price band_bps = if nat_le band_bps max_band then record { refusal =
 unfoldable pub shown : (policy band_bps price volume : ℕ) → Disclosed
 shown policy band_bps price volume =
     if policy == 0 then record { refusal = 0; price = price; volume = volume }
-    else (if policy == 1 then record { refusal = 0; price = banded price band_bps; volume = volume }
-    else (if policy == 2 then record { refusal = 0; price = 0; volume = volume }
-    else record { refusal = 0; price = 0; volume = 0 }))
+    else if policy == 1 then record { refusal = 0; price = banded price band_bps; volume = volume }
+    else if policy == 2 then record { refusal = 0; price = 0; volume = volume }
+    else record { refusal = 0; price = 0; volume = 0 }
 
 -- 'Public .. disclose' | 9 band above 10,000; then 4 a policy above 3; a refusal gives no figure
 unfoldable pub disclose_answer : (policy band_bps price volume : ℕ) → Disclosed

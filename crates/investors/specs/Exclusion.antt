@@ -32,4 +32,4 @@ module _ (orders : List Order) (n : ℕ) where
   unfoldable pub investor_exclusion : (i : ℕ) (id : List ℕ) (max_cash : ℕ) → ℕ
   investor_exclusion i id max_cash =
       if self_trade i id then self_trade_exclusion
-      else (if is_buy (order_in orders i) && nat_lt max_cash (cash_of i id) then cap_exclusion else 0)
+      else if is_buy (order_in orders i) && nat_lt max_cash (cash_of i id) then cap_exclusion else 0

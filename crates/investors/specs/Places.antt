@@ -24,7 +24,7 @@ unfoldable pub same_party : Party → Party → Bool
 same_party a b = if a.known then b.known && same a.id b.id else not b.known && same a.wallet b.wallet
 
 unfoldable pub wallet_at : Fill → ℕ → List ℕ
-wallet_at f k = if (k % 2) == 0 then f.buyer else f.seller
+wallet_at f k = if k % 2 == 0 then f.buyer else f.seller
 
 unfoldable pub place_of : List Order → ℕ → List Fill → (skipped k : ℕ) → Place
 place_of orders n fills skipped k =

@@ -4,7 +4,7 @@ use Rattle.std.specs.Prelude.{Bool, true, false, if◌then◌else◌, ◌&&◌, 
 -- the least number below n that passes; n where none does
 unfoldable pub first : (ℕ → Bool) → ℕ → ℕ
 first p zero = zero
-first p (suc n) = if nat_lt (first p n) n then first p n else (if p n then n else suc n)
+first p (suc n) = if nat_lt (first p n) n then first p n else if p n then n else suc n
 
 -- every number below n passes
 unfoldable pub every : (ℕ → Bool) → ℕ → Bool

@@ -11,18 +11,18 @@ letters a b = code a + 256 * code b
 unfoldable pub mark_of : ℕ → Mark
 mark_of m =
     if m == letters "S" "H" then SH
-    else (if m == letters "S" "I" then SI
-    else (if m == letters "O" "R" then OR
-    else (if m == letters "S" "C" then SC
-    else (if m == letters "C" "L" then CL
-    else (if m == letters "A" "L" then AL
-    else (if m == letters "R" "X" then RX
-    else (if m == letters "R" "C" then RC
-    else (if m == letters "S" "T" then ST
-    else (if m == letters "S" "K" then SK
-    else (if m == letters "F" "N" then FN
-    else (if m == letters "E" "X" then EX
-    else Unknown)))))))))))
+    else if m == letters "S" "I" then SI
+    else if m == letters "O" "R" then OR
+    else if m == letters "S" "C" then SC
+    else if m == letters "C" "L" then CL
+    else if m == letters "A" "L" then AL
+    else if m == letters "R" "X" then RX
+    else if m == letters "R" "C" then RC
+    else if m == letters "S" "T" then ST
+    else if m == letters "S" "K" then SK
+    else if m == letters "F" "N" then FN
+    else if m == letters "E" "X" then EX
+    else Unknown
 
 -- the kinds of records, in the order in which they stand in a file
 abbrev pub no_kind : ℕ

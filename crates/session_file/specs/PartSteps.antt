@@ -45,8 +45,8 @@ pub record NextOf (s : List ℕ) (t : Cursor) (r : Next) : Type 0 where
 -- the session after a record and what is said of it, by the way in which it is run
 unfoldable pub handled_by : Session → Step → Change → Fields → Handled
 handled_by x t c f =
-    if t.refusal == 0
-    then (if t.opens then record { session = fresh f.params f.given; said = packed (Opened ∷ []) }
-    else (if c.undecided then record { session = (applied x f.call).session; said = said_all (applied x f.call) }
-    else record { session = changed x c; said = packed (pair_events c.events) }))
+    if t.refusal == 0 then
+    (if t.opens then record { session = fresh f.params f.given; said = packed (Opened ∷ []) }
+    else if c.undecided then record { session = (applied x f.call).session; said = said_all (applied x f.call) }
+    else record { session = changed x c; said = packed (pair_events c.events) })
     else record { session = x; said = packed (Refused t.refusal ∷ []) }

@@ -54,9 +54,9 @@ begun too_long = cursor_at first_place unopened 0 too_long false
 unfoldable pub part_at : List ℕ → Cursor → List ℕ
 part_at s t =
     if t.ended then []
-    else (if t.too_long then record_lines t.number (Refused 26 ∷ [])
-    else (if nat_lt t.place.at (length s) then record_lines t.number (after_record s t.place t.session).said
-    else last_line (state_at t.place t.session)))
+    else if t.too_long then record_lines t.number (Refused 26 ∷ [])
+    else if nat_lt t.place.at (length s) then record_lines t.number (after_record s t.place t.session).said
+    else last_line (state_at t.place t.session)
 
 -- the number of the next record, in 64 bits
 abbrev pub next_number : ℕ → ℕ
@@ -66,10 +66,10 @@ next_number n = (n + 1) % 2 ^ 64
 unfoldable pub cursor_after : List ℕ → Cursor → Cursor
 cursor_after s t =
     if t.ended then t
-    else (if t.too_long then cursor_at (record { at = length s; stage = t.place.stage; cover = t.place.cover }) t.session (next_number t.number) false false
-    else (if nat_lt t.place.at (length s)
+    else if t.too_long then cursor_at (record { at = length s; stage = t.place.stage; cover = t.place.cover }) t.session (next_number t.number) false false
+    else if nat_lt t.place.at (length s)
     then cursor_at (after_record s t.place t.session).place (after_record s t.place t.session).session (next_number t.number) false false
-    else cursor_at t.place t.session t.number false true))
+    else cursor_at t.place t.session t.number false true
 
 -- what putting the next part does: a part that does not fit leaves the listing where it stood, and with room for any record's lines every part fits
 pub record PartPut (s : List ℕ) (t : Cursor) (r : Part) (before left : List ℕ) : Type 0 where

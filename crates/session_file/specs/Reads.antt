@@ -41,8 +41,7 @@ unfoldable pub reads_from : (n before : ℕ) (rest : List ℕ) → List Read
 reads_from zero before rest = []
 reads_from (suc n) before rest =
     if nat_lt 0 (length rest)
-    then read_next before rest
-    ∷ (if reading_refusal before rest == 0 then reads_from n (shape_at rest).kind (drop (shape_at rest).width rest) else [])
+    then read_next before rest ∷ (if reading_refusal before rest == 0 then reads_from n (shape_at rest).kind (drop (shape_at rest).width rest) else [])
     else []
 
 -- the records of a file; a refusal of reading is the last

@@ -38,8 +38,7 @@ place_after p f width ends end =
 -- what ends the file before the session is looked at
 unfoldable pub early_refusal : (refusal : ℕ) → Fields → ℕ
 early_refusal n f =
-    n then (if f.kind == header_kind then header_refusal f.params f.given f.cover
-    else (if f.kind == call_kind then record_arguments f.call else 0))
+    n then (if f.kind == header_kind then header_refusal f.params f.given f.cover else if f.kind == call_kind then record_arguments f.call else 0)
 
 -- what the record changes
 abbrev pub change_in : Session → Cover → Fields → Change
@@ -55,8 +54,8 @@ opening = record { refusal = 0; ends = false; opens = true }
 -- what is to be done with a record, where its change is refused by a number
 unfoldable pub step_of : (refusal : ℕ) → Fields → (changing : ℕ) → Step
 step_of n f changing =
-    if early_refusal n f == 0
-    then (if f.kind == header_kind then opening
+    if early_refusal n f == 0 then
+    (if f.kind == header_kind then opening
     else record { refusal = changing; ends = f.kind == order_kind && not (changing == 0); opens = false })
     else stops (early_refusal n f)
 
