@@ -13,7 +13,7 @@ use Rattle.laws.specs.Sums.{sum_below, sum_of}
 use Rattle.laws.specs.Lists.{table, keep}
 use Rattle.laws.specs.Sort.{insert, sort, dedup}
 use Rattle.laws.specs.Lex.{lex}
-use Rattle.laws.specs.Checks.{unless, ◌then◌}
+use Rattle.laws.specs.Checks.{unless, first_of}
 use Rattle.credit_math.specs.Limits.{max_orders}
 use Rattle.credit_math.specs.Price.{buy, sell, executed, imbalance, executes, better, candidates, clear_price, price_refusal, find_uniform_clear_price}
 use Rattle.credit_math.specs.ProRata.{share, shares, residue, precedes, turns, hand_out}
@@ -70,7 +70,7 @@ abbrev cleared : Outcome
 cleared = record { refusal = 0; failed = 0; price = 11; volume = 7; lots = 5 ∷ 2 ∷ 4 ∷ 3 ∷ replicate (max_orders - 4) 0 }
 
 clears : compute_clear params given orders 4 ≡ cleared
-unfolding sum_below sum_of table keep insert sort dedup lex unless ◌then◌ buy sell executed imbalance executes better candidates clear_price price_refusal find_uniform_clear_price share shares residue precedes turns hand_out prorata.lots is_live stored live_orders searched trades_at side_orders side_lots allocations allotted floor_of compute_clear
+unfolding sum_below sum_of table keep insert sort dedup lex unless first_of buy sell executed imbalance executes better candidates clear_price price_refusal find_uniform_clear_price share shares residue precedes turns hand_out prorata.lots is_live stored live_orders searched trades_at side_orders side_lots allocations allotted floor_of compute_clear
 clears = refl
 
 clearable : Clearable params given orders 4

@@ -145,26 +145,12 @@ impl Fill {
 pub fn same_key(a: [u8; 32], b: [u8; 32]) -> bool
     ensures { result ≡ same a b }
 {
-    let mut i = 0;
-    while i < 32 {
-        if a[i] != b[i] {
-            return false;
-        }
-        i += 1;
-    }
-    true
+    a == b
 }
 
 // Whether two investor ids are the same.
 pub fn same_id(a: [u8; 16], b: [u8; 16]) -> bool
     ensures { result ≡ same a b }
 {
-    let mut i = 0;
-    while i < 16 {
-        if a[i] != b[i] {
-            return false;
-        }
-        i += 1;
-    }
-    true
+    a == b
 }

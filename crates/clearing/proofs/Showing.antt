@@ -5,9 +5,10 @@ use mathlib.Core.List.{List}
 use Prim.Native.Nat.{ℕ, ◌≤◌, ◌<◌}
 use lib.ListN.{length}
 use borrow.Author.Tests.{eq-eqb}
-use Rattle.octets.specs.declared.writing.Written.{Written}
+use Rattle.std.specs.Prelude.{Result, Ok}
+use Rattle.refusals.specs.declared.Refusal.{Refusal}
 use Rattle.listing.specs.Lines.{max_record}
-use Rattle.octets.specs.Writing.{written, Writes}
+use Rattle.octets.specs.Writing.{Writes}
 use Rattle.octets.proofs.Answers.{answer_small}
 use Rattle.session_file.specs.declared.parts.Cursor.{Cursor}
 use Rattle.session_file.specs.declared.parts.Part.{Part}
@@ -20,6 +21,5 @@ pub showing_less : (input : List ℕ) {s : Cursor} {r : Part} {before left : Lis
 showing_less input {s} h room p = rw (p.cursor, eq-eqb _ 0 (p.fits room)) (parts_fewer input s h)
 
 -- what a writer says that it wrote lies within the buffer
-pub written_within : {text before left : List ℕ} {w : Written} → Writes text w before left → length left ≡ length before → w.len ≤ length left
-unfolding written
-written_within v same = rw same (answer_small v.answer).1
+pub written_within : {text before left : List ℕ} {w : Result ℕ Refusal} {n : ℕ} → w ≡ Ok n → Writes text w before left → length left ≡ length before → n ≤ length left
+written_within e v same = rw same (answer_small (rw e at v)).1

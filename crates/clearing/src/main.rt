@@ -1,11 +1,11 @@
 // Reads a session file from standard input and writes its listing to standard output, part by part.
 #![tactic(auto)]
 
-ghost use Rattle.std.specs.Prelude.{◌≤◌, length};
-ghost use Rattle.clearing.specs.Input.{filled};
+ghost use Rattle.std.specs.Prelude.{◌≤◌, length, IfOk, IfSome};
 
 use session_file::parts;
 use std::env::{Env, FillError};
+use std::io;
 use std::io::Read;
 
 fn main(rt: HostRuntime) {
@@ -18,9 +18,9 @@ fn main(rt: HostRuntime) {
     }
     let mut buffer = [0u8; 65536];
     match read_input(&mut rt.stdin(), &mut buffer) {
-        Input::Whole(n) => show(&rt, &buffer[..n], false),
-        Input::TooLong => show(&rt, &buffer, true),
-        Input::Unreadable => complain(&rt, "clearing: standard input could not be read"),
+        Ok(Some(n)) => show(&rt, &buffer[..n], false),
+        Ok(None) => show(&rt, &buffer, true),
+        Err(_) => complain(&rt, "clearing: standard input could not be read"),
     }
 }
 
@@ -34,42 +34,21 @@ fn complain(rt: &impl Eprint, line: &str) {
     let _ = rt.eprintln(line);
 }
 
-// What reading standard input came to.
-#[derive(Clone, Copy, Drop)]
-enum Input {
-    // All of it is in the buffer, so many bytes.
-    Whole(usize),
-    // There is more than the buffer holds.
-    TooLong,
-    // A read failed, if only the last: what was read before may be a part of the file.
-    Unreadable,
-}
-
-// Fills the buffer from its start. No contract can say which bytes come from standard input.
-fn read_input(reader: &mut impl Read, buffer: &mut [u8]) -> Input
-    ensures { filled result ≤ length buffer.new }
+// Fills the buffer from its start: how many bytes the input has, or none where there are more than the buffer holds. An input of which a read failed, if
+// only the last, has none either: what was read before may be a part of the file. No contract can say which bytes come from standard input.
+fn read_input(reader: &mut impl Read, buffer: &mut [u8]) -> io::Result<Option<usize>>
+    ensures { IfOk result (λ read. IfSome read (λ n. n ≤ length buffer.new)) }
 {
     let mut n = 0;
     while n < buffer.len() {
-        match reader.read(&mut buffer[n..]) {
-            Ok(0) => return Input::Whole(n),
-            Ok(more) => n += more,
-            Err(_) => return Input::Unreadable,
+        match reader.read(&mut buffer[n..])? {
+            0 => return Ok(Some(n)),
+            more => n += more,
         }
     }
-    read_past(reader, n)
-}
-
-// With the buffer full: whether the input ends here.
-fn read_past(reader: &mut impl Read, n: usize) -> Input
-    ensures { filled result ≤ n }
-{
     let mut one = [0u8; 1];
-    match reader.read(&mut one) {
-        Ok(0) => Input::Whole(n),
-        Ok(_) => Input::TooLong,
-        Err(_) => Input::Unreadable,
-    }
+    let past = reader.read(&mut one)?;
+    Ok(if past == 0 { Some(n) } else { None })
 }
 
 // The listing, part by part: the buffer has room for any part. A failed write is said, and nothing after it is written.
@@ -78,7 +57,7 @@ fn show(rt: &(impl Print + Eprint), input: &[u8], too_long: bool) {
     let mut s = parts::begin(too_long);
     while !s.ended {
         let part = parts::put_next(input, s, &mut out);
-        let len = part.written.len;
+        let Ok(len) = part.written else { return };
         if !put(rt, &out[..len]) {
             return;
         }

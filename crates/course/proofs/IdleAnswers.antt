@@ -7,10 +7,10 @@ use native.Mathlib.Omega.{arith}
 use lib.IntN.{pos}
 use Rattle.laws.specs.Sums.{sum_below, count, sum_of}
 use Rattle.laws.specs.Search.{first, every, some}
-use Rattle.laws.specs.Lists.{table, keep, same}
+use Rattle.laws.specs.Lists.{table, keep}
 use Rattle.laws.specs.Sort.{insert, sort, dedup}
 use Rattle.laws.specs.Lex.{lex}
-use Rattle.laws.specs.Checks.{unless, ◌then◌}
+use Rattle.laws.specs.Checks.{unless, first_of}
 use Rattle.clock.specs.Clock.{sum_fits}
 use Rattle.credit_math.specs.Price.{buy, sell, executed, imbalance, executes, better, candidates, clear_price, price_refusal, find_uniform_clear_price}
 use Rattle.credit_math.specs.ProRata.{share, shares, residue, precedes, turns, hand_out}
@@ -43,15 +43,15 @@ pub record Answered (a : Answer) : Type 0 where
   pub left : (order_at a.session 0).alloc_left ≡ 5
 
 passes : checks screened (pos 150) ≡ 0
-unfolding sum_below count first every some same unless ◌then◌ sum_fits is_live is_other self_trade cash_of investor_exclusion fresh admits limits_refusal fields_refusal in_window exclusion_of screen_effect effect with_order
+unfolding sum_below count first every some unless first_of sum_fits is_live is_other self_trade cash_of investor_exclusion fresh admits limits_refusal fields_refusal in_window exclusion_of screen_effect effect with_order
 passes = refl
 
 in_clearing : screened.phase ≡ clearing
-unfolding sum_below count first every some same unless ◌then◌ is_live is_other self_trade cash_of investor_exclusion fresh exclusion_of screen_effect effect with_order
+unfolding sum_below count first every some unless first_of is_live is_other self_trade cash_of investor_exclusion fresh exclusion_of screen_effect effect with_order
 in_clearing = refl
 
 answered : Answered (answer screened (clear (pos 150)))
-unfolding sum_below count sum_of first every some table keep same insert sort dedup lex unless ◌then◌ sum_fits buy sell executed imbalance executes better candidates clear_price price_refusal find_uniform_clear_price share shares residue precedes turns hand_out prorata.lots is_live stored live_orders searched trades_at side_orders side_lots allocations allotted floor_of compute_clear is_other self_trade cash_of investor_exclusion fresh admits limits_refusal fields_refusal arguments_refusal in_window exclusion_of screen_effect clear_refusal with_lots cleared_by clear_lines own_refusal refusal effect events answer with_order
+unfolding sum_below count sum_of first every some table keep insert sort dedup lex unless first_of sum_fits buy sell executed imbalance executes better candidates clear_price price_refusal find_uniform_clear_price share shares residue precedes turns hand_out prorata.lots is_live stored live_orders searched trades_at side_orders side_lots allocations allotted floor_of compute_clear is_other self_trade cash_of investor_exclusion fresh admits limits_refusal fields_refusal arguments_refusal in_window exclusion_of screen_effect clear_refusal with_lots cleared_by clear_lines own_refusal refusal effect events answer with_order
 answered = record { phase = refl; price = refl; volume = refl; lot = refl; left = refl }
 
 -- a right answer is that one

@@ -10,7 +10,7 @@ use Rattle.laws.specs.Sums.{sum_below}
 use Rattle.laws.specs.Lists.{keep}
 use Rattle.laws.specs.Sort.{insert, sort, dedup}
 use Rattle.laws.specs.Lex.{lex}
-use Rattle.laws.specs.Checks.{unless, ◌then◌}
+use Rattle.laws.specs.Checks.{unless, first_of}
 use Rattle.credit_math.specs.Price.{buy, sell, executed, imbalance, executes, better, candidates, clear_price, price_refusal, find_uniform_clear_price, Found, refused, failed, cross}
 use Rattle.credit_math.specs.Claims.{RightPrice}
 use Rattle.credit_math.proofs.PriceTheorems.{price_is_right}
@@ -28,7 +28,7 @@ abbrev Right : Found → Type 0
 Right = RightPrice is_buy limits qtys 9 10
 
 finds : find_uniform_clear_price is_buy limits qtys 9 10 ≡ cross 11 7
-unfolding find_uniform_clear_price price_refusal clear_price candidates better executes imbalance executed sell buy sum_below keep insert sort dedup lex unless ◌then◌
+unfolding find_uniform_clear_price price_refusal clear_price candidates better executes imbalance executed sell buy sum_below keep insert sort dedup lex unless first_of
 finds = refl
 
 -- the one answer

@@ -11,7 +11,7 @@ use lib.ListN.{length}
 use borrow.Author.Tests.{lt-ltb, le-ltb, ltb-true, ltb-false, le-leb, leb-true, eq-eqb, eqb-true}
 use Rattle.laws.specs.Lists.{Member, keep}
 use Rattle.laws.specs.Sort.{sort}
-use Rattle.laws.specs.Checks.{unless, ◌then◌}
+use Rattle.laws.specs.Checks.{unless, first_of}
 use Rattle.laws.proofs.Tests.{both}
 use Rattle.laws.proofs.Checking.{unless_zero, check_zero}
 use Rattle.laws.proofs.Lists.{keep_members}
@@ -105,7 +105,7 @@ module _ (is_buy : List Bool) (limits qtys : List ℕ) (reference : ℕ) where
 
 -- lists of one length, of at most max_orders places, are not refused
 pub book_accepted : {is_buy : List Bool} {limits qtys : List ℕ} → Book is_buy limits qtys → price_refusal is_buy limits qtys ≡ 0
-unfolding price_refusal unless ◌then◌
+unfolding price_refusal unless first_of
 book_accepted {is_buy} {limits} {qtys} b =
     simp (le-leb (length is_buy) max_orders b.few, eq-eqb (length limits) (length is_buy) b.limits_too, eq-eqb (length qtys) (length is_buy) b.qtys_too)
 

@@ -11,7 +11,7 @@ use lib.ListN.{length}
 use borrow.Author.Tests.{lt-ltb, le-ltb, le-leb, lt-leb, eq-eqb, ne_eqb, ltb-true, ltb-false, eqb-true, eqb-false}
 use Rattle.laws.specs.Sums.{sum_of}
 use Rattle.laws.specs.Lists.{table}
-use Rattle.laws.specs.Checks.{unless, ◌then◌}
+use Rattle.laws.specs.Checks.{unless, ◌then◌, first_of}
 use Rattle.credit_math.specs.Limits.{max_orders}
 use Rattle.credit_math.specs.Error.{invalid_input, over_allocation, bad_length}
 use Rattle.credit_math.specs.ProRata.{pro_rata_refusal, allocate_pro_rata}
@@ -34,36 +34,36 @@ module _ {w sum : ℕ} (is : w ≡ sum) where
 
 module _ (ids qtys : List ℕ) (room total : ℕ) where
   pub too_many : max_orders < length qtys → pro_rata_refusal ids qtys room total ≡ bad_length
-  unfolding pro_rata_refusal unless ◌then◌
+  unfolding pro_rata_refusal unless first_of
   too_many h = simp (lt-leb (length qtys) max_orders h)
 
   module _ (few : length qtys ≤ max_orders) where
     pub other_ids : (length ids ≡ length qtys → ⊥) → pro_rata_refusal ids qtys room total ≡ bad_length
-    unfolding pro_rata_refusal unless ◌then◌
+    unfolding pro_rata_refusal unless first_of
     other_ids h = simp (le-leb (length qtys) max_orders few, ne_eqb (length ids) (length qtys) h)
 
     module _ (ids_too : length ids ≡ length qtys) where
       pub other_room : (room ≡ length qtys → ⊥) → pro_rata_refusal ids qtys room total ≡ bad_length
-      unfolding pro_rata_refusal unless ◌then◌
+      unfolding pro_rata_refusal unless first_of
       other_room h = simp (le-leb (length qtys) max_orders few, eq-eqb (length ids) (length qtys) ids_too, ne_eqb room (length qtys) h)
 
       module _ (room_too : room ≡ length qtys) where
         -- lists of one length are left to the checks of the total
         past_lengths : pro_rata_refusal ids qtys room total
             ≡ (unless (not (ltb 0 total && eqb (sum_of qtys) 0)) invalid_input then unless (leb total (sum_of qtys)) over_allocation)
-        unfolding pro_rata_refusal unless ◌then◌
+        unfolding pro_rata_refusal unless first_of
         past_lengths = simp (le-leb (length qtys) max_orders few, eq-eqb (length ids) (length qtys) ids_too, eq-eqb room (length qtys) room_too)
 
         pub nothing_to_share : sum_of qtys < total → sum_of qtys ≡ 0 → pro_rata_refusal ids qtys room total ≡ invalid_input
-        unfolding unless ◌then◌
+        unfolding unless first_of
         nothing_to_share h e = past_lengths ∙ simp (lt-ltb 0 total (omega arith), eq-eqb (sum_of qtys) 0 e)
 
         pub above_sum : sum_of qtys < total → (sum_of qtys ≡ 0 → ⊥) → pro_rata_refusal ids qtys room total ≡ over_allocation
-        unfolding unless ◌then◌
+        unfolding unless first_of
         above_sum h e = past_lengths ∙ simp (lt-ltb 0 total (omega arith), ne_eqb (sum_of qtys) 0 e, lt-leb total (sum_of qtys) h)
 
         pub in_sum : total ≤ sum_of qtys → pro_rata_refusal ids qtys room total ≡ 0
-        unfolding unless ◌then◌
+        unfolding unless first_of
         in_sum h =
             past_lengths
             ∙ ⊎_elim (λ (e : total ≡ 0). simp (le-ltb 0 total (omega arith), le-leb total (sum_of qtys) h))

@@ -7,22 +7,22 @@ use Prim.Native.Nat.{ℕ, zero, suc}
 use native.Mathlib.Omega.{arith}
 use lib.Dec.{eqb-suc-zero}
 use borrow.Author.Tests.{ne_eqb, eq-eqb}
-use Rattle.laws.specs.Checks.{unless, ◌then◌}
+use Rattle.laws.specs.Checks.{unless, ◌then◌, first_of}
 use Rattle.laws.specs.Lists.{Member}
 
 -- a list that passes passes in both parts
 pub then_zero : (m n : ℕ) → (m then n) ≡ 0 → (m ≡ 0) × (n ≡ 0)
-unfolding ◌then◌
+unfolding first_of
 then_zero zero n h = (refl, h)
 then_zero (suc m) n h = absurd (let g : suc m ≡ 0 = rw (eqb-suc-zero m) at h in omega arith)
 
 -- the first that fails decides, and one that passes leaves it to the rest
 pub then_stop : (m n : ℕ) → (m ≡ 0 → ⊥) → m ≡ (m then n)
-unfolding ◌then◌
+unfolding first_of
 then_stop m n h = rw (ne_eqb m 0 h)
 
 pub then_pass : (m n : ℕ) → m ≡ 0 → n ≡ (m then n)
-unfolding ◌then◌
+unfolding first_of
 then_pass m n h = rw (eq-eqb m 0 h)
 
 pub unless_zero : (t : Bool) (n : ℕ) → unless t (suc n) ≡ 0 → t ≡ true
@@ -47,19 +47,19 @@ check_pass t n rest h e = then_both (unless t n) rest (unless_pass t n h) e
 
 -- checks in stages
 pub then_assoc : (a b c : ℕ) → ((a then b) then c) ≡ (a then b then c)
-unfolding ◌then◌
+unfolding first_of
 then_assoc zero b c = refl
 then_assoc (suc a) b c = rw (eqb-suc-zero a, eqb-suc-zero a)
 
 -- nothing more to check
 pub then_nothing : (m : ℕ) → (m then 0) ≡ m
-unfolding ◌then◌
+unfolding first_of
 then_nothing zero = refl
 then_nothing (suc m) = rw (eqb-suc-zero m)
 
 -- checks come to 0 or to one of their numbers
 pub then_in : (l : List ℕ) (m n : ℕ) → Member m (0 ∷ l) → Member n (0 ∷ l) → Member (m then n) (0 ∷ l)
-unfolding ◌then◌
+unfolding first_of
 then_in l zero n h k = k
 then_in l (suc m) n h k = subst (λ x. Member x (0 ∷ l)) (then_stop (suc m) n (λ e. omega arith)) h
 

@@ -12,6 +12,7 @@ pub mod Ascending
 pub mod Lex
 pub mod Rank
 pub mod Ranked
+pub mod Chains
 pub mod Checking
 pub mod Bits
 pub mod Members

@@ -128,12 +128,10 @@ unseen f (x ∷ l) (suc i) a d e (suc j) = unseen f l i a d e j
 
 -- lists that are the same are equal, and the other way round
 pub same_refl : (l : List ℕ) → same l l ≡ true
-unfolding same
 same_refl [] = refl
 same_refl (x ∷ l) = rw (eq-eqb x x refl) (same_refl l)
 
 pub same_true : (l k : List ℕ) → same l k ≡ true → l ≡ k
-unfolding same
 same_true [] [] e = refl
 same_true [] (y ∷ k) e = cc
 same_true (x ∷ l) [] e = cc
@@ -155,11 +153,9 @@ SamePast a b k i = (i ≤ k) × (same a b ≡ same (drop i a) (drop i b))
 
 module _ (a b : List ℕ) (k i : ℕ) (ha : length a ≡ k) (hb : length b ≡ k) where
   pub same_end : SamePast a b k i → k ≤ i → true ≡ same a b
-  unfolding same
   same_end v h = rw (v.1, drop_of_length-le a {i = i} (omega arith), drop_of_length-le b {i = i} (omega arith))
 
   same_next : i < k → same (drop i a) (drop i b) ≡ (eqb (get_or a i 0) (get_or b i 0) && same (drop (suc i) a) (drop (suc i) b))
-  unfolding same
   same_next h = rw (drop-cons a i 0 (omega arith), drop-cons b i 0 (omega arith))
 
   pub same_stop : i < k → SamePast a b k i → (get_or a i 0 ≡ get_or b i 0 → ⊥) → false ≡ same a b

@@ -6,6 +6,9 @@ unfoldable pub unless : Bool → ℕ → ℕ
 unless test n = if test then 0 else n
 
 -- checks in order
+unfoldable pub first_of : ℕ → ℕ → ℕ
+first_of m n = if m == 0 then n else m
+
 infixr 30 ◌then◌
-unfoldable pub ◌then◌ : ℕ → ℕ → ℕ
-m then n = if m == 0 then n else m
+abbrev pub ◌then◌ : ℕ → ℕ → ℕ
+m then n = first_of m n

@@ -1,5 +1,6 @@
 -- Lists of numbers: tables, membership, equality.
-use Rattle.std.specs.Prelude.{Bool, true, false, if◌then◌else◌, ◌&&◌, ◌||◌, ◌⊎◌, ◌≡◌, List, [], ◌∷◌, ℕ, zero, suc, ◌==◌}
+use Rattle.std.specs.Cmp.Lexicographic.{pointwise}
+use Rattle.std.specs.Prelude.{Bool, false, if◌then◌else◌, ◌||◌, ◌⊎◌, ◌≡◌, List, [], ◌∷◌, ℕ, zero, suc, ◌==◌}
 
 -- f 0, f 1, .., f (n - 1)
 unfoldable pub table : {A : Type 0} → (ℕ → A) → ℕ → List A
@@ -21,9 +22,6 @@ unfoldable pub has : List ℕ → ℕ → Bool
 has [] n = false
 has (x ∷ l) n = x == n || has l n
 
--- two lists are the same
-unfoldable pub same : List ℕ → List ℕ → Bool
-same [] [] = true
-same [] (y ∷ k) = false
-same (x ∷ l) [] = false
-same (x ∷ l) (y ∷ k) = x == y && same l k
+-- two lists are the same: as long, and each number of one equal to the other's at its place
+abbrev pub same : List ℕ → List ℕ → Bool
+same = pointwise ◌==◌

@@ -3,6 +3,7 @@
 
 ghost use Rattle.std.specs.Prelude.{◌≡◌, map, ◌+◌, ◌*◌, ◌<◌, ◌≤◌, min, length, take};
 ghost use Rattle.std.specs.Int.Count.{ones};
+ghost use Rattle.refusals.specs.Number.{refusal_in};
 ghost use Rattle.octets.specs.Decimal.{max_digits};
 ghost use Rattle.octets.specs.Writing.{Writes};
 ghost use Rattle.octets.specs.Puts.{Puts};
@@ -12,7 +13,8 @@ ghost use Rattle.listing.specs.Parts.{Short, rest, parts_line};
 
 use crate::words::Parts;
 use events::{EventPair, Events, Line, MAX_EVENTS};
-use octets::writing::{MAX_DIGITS, Written, put_bytes, put_dec, put_text};
+use octets::writing::{MAX_DIGITS, put_bytes, put_dec, put_text};
+use refusals::Refusal;
 
 mod words;
 
@@ -29,29 +31,27 @@ const MAX_LINE: usize = MAX_DIGITS + 1 + MAX_LETTERS + MAX_FIGURES * (1 + MAX_DI
 pub const ROOM: usize = MAX_EVENTS * MAX_LINE;
 
 // A record's lines at the start of out; where they are longer than out, 27, and out is left as it was. ROOM is always enough.
-pub fn put_events(out: &mut [u8], number: u64, events: Events) -> Written
-    ensures { Writes (record_lines number (events_in events)) result out.old out.new × (max_record ≤ length out.old → result.refusal ≡ 0) }
+pub fn put_events(out: &mut [u8], number: u64, events: Events) -> Result<usize, Refusal>
+    ensures { Writes (record_lines number (events_in events)) result out.old out.new × (max_record ≤ length out.old → refusal_in result ≡ 0) }
 {
     if ROOM <= out.len() {
-        let len = put_event_lines(out, number, events);
-        return Written { refusal: 0, len };
+        return Ok(put_event_lines(out, number, events));
     }
     put_copied(out, number, events)
 }
 
 // The lines of a record with at most two events, likewise.
-pub fn put_pair(out: &mut [u8], number: u64, pair: EventPair) -> Written
-    ensures { Writes (record_lines number (pair_events pair)) result out.old out.new × (max_record ≤ length out.old → result.refusal ≡ 0) }
+pub fn put_pair(out: &mut [u8], number: u64, pair: EventPair) -> Result<usize, Refusal>
+    ensures { Writes (record_lines number (pair_events pair)) result out.old out.new × (max_record ≤ length out.old → refusal_in result ≡ 0) }
 {
     if ROOM <= out.len() {
-        let len = put_pair_lines(out, number, pair);
-        return Written { refusal: 0, len };
+        return Ok(put_pair_lines(out, number, pair));
     }
     put_copied(out, number, pair.all())
 }
 
 // The same by way of a buffer, where out may be shorter than the lines.
-fn put_copied(out: &mut [u8], number: u64, events: Events) -> Written
+fn put_copied(out: &mut [u8], number: u64, events: Events) -> Result<usize, Refusal>
     ensures { Writes (record_lines number (events_in events)) result out.old out.new }
 {
     let mut text = [0u8; ROOM];
@@ -60,18 +60,17 @@ fn put_copied(out: &mut [u8], number: u64, events: Events) -> Written
 }
 
 // The last line, likewise.
-pub fn put_end(out: &mut [u8], accepted: bool, phase: u8, skipped: u32) -> Written
-    ensures { Writes (end_line accepted phase skipped) result out.old out.new × (max_record ≤ length out.old → result.refusal ≡ 0) }
+pub fn put_end(out: &mut [u8], accepted: bool, phase: u8, skipped: u32) -> Result<usize, Refusal>
+    ensures { Writes (end_line accepted phase skipped) result out.old out.new × (max_record ≤ length out.old → refusal_in result ≡ 0) }
 {
     if ROOM <= out.len() {
-        let len = put_last(out, accepted, phase, skipped);
-        return Written { refusal: 0, len };
+        return Ok(put_last(out, accepted, phase, skipped));
     }
     put_end_copied(out, accepted, phase, skipped)
 }
 
 // The same by way of a buffer, where out may be shorter than the line.
-fn put_end_copied(out: &mut [u8], accepted: bool, phase: u8, skipped: u32) -> Written
+fn put_end_copied(out: &mut [u8], accepted: bool, phase: u8, skipped: u32) -> Result<usize, Refusal>
     ensures { Writes (end_line accepted phase skipped) result out.old out.new }
 {
     let mut text = [0u8; ROOM];

@@ -1,5 +1,4 @@
 -- Laws of the numbers that bytes say, and of bytes that are written.
-pub mod Numbers
 pub mod Spliced
 pub mod Decimal
 pub mod Fitting

@@ -1,63 +1,38 @@
 // Texts and numbers in base ten, written into bytes that are lent. Where one does not fit, the bytes are left as they were, so nothing is asked of
 // the caller.
-ghost use Rattle.std.specs.Prelude.{◌≡◌, if◌then◌else◌, [], ◌∷◌, ◌+◌, ◌/◌, ◌%◌, ◌<◌, ◌≤◌, nat_le, length};
+ghost use Rattle.std.specs.Prelude.{◌≡◌, [], ◌∷◌, ◌+◌, ◌/◌, ◌%◌, ◌<◌, ◌≤◌, length};
 ghost use Rattle.octets.specs.Decimal.{decimal, max_digits};
 ghost use Rattle.octets.specs.Writing.{Writes, PutAt};
 ghost use Rattle.octets.specs.Puts.{Puts};
 
+use refusals::Refusal;
+
 // The most digits of a number of 64 bits.
 pub const MAX_DIGITS: usize = 20;
 
-// What a writer answers: 0 and the length that it wrote, or 27.
-#[derive(Clone, Copy, Drop)]
-pub struct Written {
-    pub refusal: u8,
-    pub len: usize,
-}
-
-// A text at the start of out; where it is longer than out, 27, and out is left as it was.
-pub fn put_text(out: &mut [u8], text: &[u8]) -> Written
+// A text at the start of out, and its length; where it is longer than out, 27, and out is left as it was.
+pub fn put_text(out: &mut [u8], text: &[u8]) -> Result<usize, Refusal>
     ensures { Writes text.now result out.old out.new }
 {
-    let answer = answer_for(text.len(), out.len());
-    let len = answer.len;
-    put_bytes(out, 0, &text[..len]);
-    answer
-}
-
-// The answer to a text of that length, where there is room for so many bytes.
-fn answer_for(len: usize, room: usize) -> Written
-    ensures { result ≡ (if nat_le len room then record { refusal = 0; len = len } else record { refusal = 27; len = 0 }) }
-{
+    let len = text.len();
+    let room = out.len();
     if room < len {
-        return Written {
-            refusal: refusals::OUTPUT_TOO_SMALL,
-            len: 0,
-        };
+        return Err(Refusal::OutputTooSmall);
     }
-    Written { refusal: 0, len }
+    out[..len].copy_from_slice(text);
+    Ok(len)
 }
 
 // The bytes of a text at a place, and the place after them; where they do not fit, out is left as it was, and the place is the same.
 pub fn put_bytes(out: &mut [u8], at: usize, bytes: &[u8]) -> usize
     ensures { PutAt bytes.now at result out.old out.new }
 {
-    if crate::holds(out.len(), at, bytes.len()) {
-        return copy_bytes(out, at, bytes);
+    let len = bytes.len();
+    if len <= out.len() && at <= out.len() - len {
+        out[at..at + len].copy_from_slice(bytes);
+        return at + len;
     }
     at
-}
-
-fn copy_bytes(out: &mut [u8], at: usize, bytes: &[u8]) -> usize
-    requires { at + length bytes.now ≤ length out.old }
-    ensures { Puts bytes.now at result out.old out.new }
-{
-    let mut i = 0;
-    while i < bytes.len() {
-        out[at + i] = bytes[i];
-        i += 1;
-    }
-    at + i
 }
 
 // x in base ten, likewise; MAX_DIGITS bytes are always enough. Where there are fewer it goes by way of a buffer.
@@ -67,7 +42,7 @@ pub fn put_dec(out: &mut [u8], at: usize, x: u64) -> usize
     if x < 10 {
         return put_digit(out, at, x);
     }
-    if crate::holds(out.len(), at, MAX_DIGITS) {
+    if MAX_DIGITS <= out.len() && at <= out.len() - MAX_DIGITS {
         return put_digits(out, at, x);
     }
     let mut text = [0u8; MAX_DIGITS];

@@ -12,7 +12,7 @@ use lib.Seq.{ext_get_or, get_or-take, length-take-le}
 use Rattle.laws.proofs.Tests.{lt_or_le}
 use Rattle.std.proofs.lemmas.List.{get_or-map}
 use Rattle.laws.proofs.Lists.{Writing, writing, writing_more}
-use Rattle.laws.specs.Checks.{unless, ◌then◌}
+use Rattle.laws.specs.Checks.{unless, first_of}
 use Rattle.credit_math.specs.Limits.{max_orders}
 use Rattle.credit_math.specs.Error.{bad_length}
 use Rattle.credit_math.specs.Price.{price_refusal, find_uniform_clear_price, refused}
@@ -74,11 +74,11 @@ module _ (l : List Bid) (h : length l ≤ max_orders) where
 
 -- over 16 records the definitions refuse
 search_over : (l : List Order) (reserve reference : ℕ) → max_orders < length l → search_orders l reserve reference ≡ refused bad_length
-unfolding search_orders find_uniform_clear_price price_refusal unless ◌then◌
+unfolding search_orders find_uniform_clear_price price_refusal unless first_of
 search_over l reserve reference h = rw (length-map l (λ o. o.is_buy), lt-leb (length l) max_orders h)
 
 refusal_over : (l : List Bid) (room total : ℕ) → max_orders < length l → bids_refusal l room total ≡ bad_length
-unfolding bids_refusal pro_rata_refusal unless ◌then◌
+unfolding bids_refusal pro_rata_refusal unless first_of
 refusal_over l room total h = rw (length-map l (λ b. b.qty), lt-leb (length l) max_orders h)
 
 allocate_over : (l : List Bid) (total : ℕ) (out : List ℕ) → max_orders < length l → allocate_bids l total out ≡ out

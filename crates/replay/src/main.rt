@@ -3,9 +3,9 @@
 // named by its number from 0.
 #![tactic(auto)]
 
-ghost use Rattle.std.specs.Prelude.{◌≤◌, length};
+ghost use Rattle.std.specs.Prelude.{◌≤◌, length, IfSome};
 
-use octets::reading;
+use refusals::Refusal;
 use std::fmt::Display;
 use std::io::Read;
 
@@ -21,127 +21,60 @@ const LISTING: usize = 262144;
 fn main(rt: HostRuntime) {
     let mut reader = rt.stdin();
     for n in 0..MOST {
-        let found = next(&mut reader);
-        if found == AT_END {
-            say(&rt, n);
-            say(&rt, " files, 0 different\n");
-            return;
-        }
-        if found == DIFFERENT {
-            say(&rt, "file ");
-            say(&rt, n);
-            say(&rt, " differs\n");
-            return;
+        match next(&mut reader) {
+            Some(true) => {}
+            Some(false) => {
+                say(&rt, "file ");
+                say(&rt, n);
+                say(&rt, " differs\n");
+                return;
+            }
+            None => {
+                say(&rt, n);
+                say(&rt, " files, 0 different\n");
+                return;
+            }
         }
     }
 }
 
-const ALIKE: u8 = 0;
-
-const DIFFERENT: u8 = 1;
-
-const AT_END: u8 = 2;
-
-// The next case of the list.
-fn next(reader: &mut impl Read) -> u8 {
+// Whether the next case of the list is alike, if there is one: the file's listing against the one that follows.
+fn next(reader: &mut impl Read) -> Option<bool> {
     let mut file = [0u8; FILE];
-    let part = read_part(reader, &mut file);
-    if !part.whole {
-        return AT_END;
-    }
-    let len = part.len;
-    compare(reader, &file[..len])
+    let len = read_part(reader, &mut file)?;
+    Some(compare(reader, &file[..len]))
 }
 
-// The file's listing against the one that follows.
-fn compare(reader: &mut impl Read, file: &[u8]) -> u8 {
+fn compare(reader: &mut impl Read, file: &[u8]) -> bool {
     let mut want = [0u8; LISTING];
-    let part = read_part(reader, &mut want);
-    let len = part.len;
-    if !part.whole {
-        return DIFFERENT;
+    match read_part(reader, &mut want) {
+        Some(len) => is_listing(file, &want[..len]),
+        None => false,
     }
-    if is_listing(file, &want[..len]) {
-        return ALIKE;
-    }
-    DIFFERENT
 }
 
 // Whether the file's listing is this one. An input above the limit has the listing that the program prints for it.
 fn is_listing(file: &[u8], want: &[u8]) -> bool {
     let mut out = [0u8; LISTING];
-    let written = session_file::list_file(file, &mut out);
-    if written.refusal == refusals::INPUT_TOO_LONG {
-        return same(b"0 refused 26\nend none\n", 22, want);
+    match session_file::list_file(file, &mut out) {
+        Ok(len) => out.get(..len) == Some(want),
+        Err(Refusal::InputTooLong) => want == b"0 refused 26\nend none\n".as_slice(),
+        Err(_) => false,
     }
-    if written.refusal != 0 {
-        return false;
-    }
-    same(&out, written.len, want)
 }
 
-// A part of the list: whether it was whole, and its length.
-#[derive(Clone, Copy, Drop)]
-struct Part {
-    whole: bool,
-    len: usize,
-}
-
-fn read_part(reader: &mut impl Read, buf: &mut [u8]) -> Part
-    ensures { result.len ≤ length buf.new }
+// A part of the list, if there is a whole one: its length, of so many bytes at the buffer's start.
+fn read_part(reader: &mut impl Read, buf: &mut [u8]) -> Option<usize>
+    ensures { IfSome result (λ n. n ≤ length buf.new) }
 {
     let mut head = [0u8; 4];
-    let got = read_full(reader, &mut head);
-    let len = reading::u32_at(&head, 0) as usize;
-    if got < 4 {
-        return Part {
-            whole: false,
-            len: 0,
-        };
-    }
+    reader.read_exact(&mut head).ok()?;
+    let len = u32::from_le_bytes(head) as usize;
     if buf.len() < len {
-        return Part {
-            whole: false,
-            len: 0,
-        };
+        return None;
     }
-    let read = read_full(reader, &mut buf[..len]);
-    Part {
-        whole: read == len,
-        len,
-    }
-}
-
-// Reads until the buffer is full, the input ends or a read fails: how many bytes it put at the buffer's start.
-fn read_full(reader: &mut impl Read, buf: &mut [u8]) -> usize
-    ensures { result ≤ length buf.new }
-{
-    let mut n = 0;
-    while n < buf.len() {
-        match reader.read(&mut buf[n..]) {
-            Ok(0) | Err(_) => break,
-            Ok(more) => n += more,
-        }
-    }
-    n
-}
-
-// Whether the first n bytes of out are those of want, and no more.
-fn same(out: &[u8], n: usize, want: &[u8]) -> bool {
-    if n != want.len() {
-        return false;
-    }
-    if out.len() < n {
-        return false;
-    }
-    let mut i = 0;
-    while i < n {
-        if out[i] != want[i] {
-            return false;
-        }
-        i += 1;
-    }
-    true
+    reader.read_exact(&mut buf[..len]).ok()?;
+    Some(len)
 }
 
 // A write that fails is not said.

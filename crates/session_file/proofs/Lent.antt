@@ -1,28 +1,30 @@
 -- A writer that is lent the part of an output from a place on: what its answer says, and what it leaves in the whole.
 -- Assumes nothing.
-use Rattle.std.proofs.Common.{◌≡◌, ℕ, ◌+◌, ◌-◌, ◌<◌, ◌≤◌, Bool, true, false, cond, leb, ◌≢◌, List, [], ◌++◌, length, take, drop, sym, refl, ap, ◌∙◌, append-nil, zero-add, arith, length-append, length-drop, drop_of_length-le, length-take-le, take_all, drop-drop, leb-false, leb-true}
-use Rattle.octets.specs.declared.writing.Written.{Written}
+use Rattle.std.proofs.Common.{◌≡◌, ℕ, ◌+◌, ◌-◌, ◌<◌, ◌≤◌, Bool, true, false, cond, leb, List, [], ◌++◌, length, take, drop, sym, refl, ◌∙◌, append-nil, zero-add, arith, length-append, length-drop, drop_of_length-le, length-take-le, take_all, drop-drop, leb-false, leb-true}
+use Rattle.std.specs.Prelude.{Result, Ok, Err}
+use Rattle.refusals.specs.declared.Refusal.{Refusal}
+use Rattle.refusals.specs.declared.Refusal.TheVariants.{OutputTooSmall}
 use Rattle.octets.specs.Writing.{splice, written, after, Writes}
 use Rattle.octets.specs.Puts.{Puts}
 
 -- ---- by its answer, a text stands at the start of the part, or is longer than it
-module _ {text before left : List ℕ} {w : Written} (v : Writes text w before left) where
-  pub fits : w.refusal ≡ 0 → (length text ≤ length before) × Puts text 0 w.len before left
+module _ {text before left : List ℕ} {w : Result ℕ Refusal} (v : Writes text w before left) where
+  pub fits : {n : ℕ} → w ≡ Ok n → (length text ≤ length before) × Puts text 0 n before left
   unfolding written after
-  fits z = go (leb (length text) (length before)) refl v.answer v.bytes
+  fits {n} z = go (leb (length text) (length before)) refl v.answer v.bytes
     where
-      go : (t : Bool) → leb (length text) (length before) ≡ t → w ≡ cond t (record { refusal = 0; len = length text }) (record { refusal = 27; len = 0 })
-          → left ≡ cond t (splice 0 text before) before → (length text ≤ length before) × Puts text 0 w.len before left
-      go true e a b = (leb-true (length text) (length before) e, record { place = ap (λ (x : Written). x.len) a ∙ sym (zero-add (length text)); bytes = b })
-      go false e a b = absurd (let g : 27 ≡ 0 = sym (ap (λ (x : Written). x.refusal) a) ∙ z in omega arith)
+      go : (t : Bool) → leb (length text) (length before) ≡ t → w ≡ cond t (Ok (length text)) (Err OutputTooSmall)
+          → left ≡ cond t (splice 0 text before) before → (length text ≤ length before) × Puts text 0 n before left
+      go true e a b = let l : n ≡ length text = cc in (leb-true (length text) (length before) e, record { place = l ∙ sym (zero-add (length text)); bytes = b })
+      go false e a b = absurd cc
 
-  pub longer : w.refusal ≢ 0 → (length before < length text) × (w ≡ record { refusal = 27; len = 0 })
+  pub longer : {r : Refusal} → w ≡ Err r → (length before < length text) × (w ≡ Err OutputTooSmall)
   unfolding written
-  longer z = go (leb (length text) (length before)) refl v.answer
+  longer {r} z = go (leb (length text) (length before)) refl v.answer
     where
-      go : (t : Bool) → leb (length text) (length before) ≡ t → w ≡ cond t (record { refusal = 0; len = length text }) (record { refusal = 27; len = 0 })
-          → (length before < length text) × (w ≡ record { refusal = 27; len = 0 })
-      go true e a = absurd (z (ap (λ (x : Written). x.refusal) a))
+      go : (t : Bool) → leb (length text) (length before) ≡ t → w ≡ cond t (Ok (length text)) (Err OutputTooSmall)
+          → (length before < length text) × (w ≡ Err OutputTooSmall)
+      go true e a = absurd cc
       go false e a = (leb-false (length text) (length before) e, a)
 
 -- ---- the whole, after its part from at on was lent, and left so

@@ -1,4 +1,5 @@
 -- The parts of a listing in turn are the listing; and a part as the code comes to it. Assumes nothing.
+use Rattle.std.specs.Prelude.{Ok}
 use Rattle.std.proofs.Common.{◌≡◌, ℕ, zero, suc, ◌+◌, ◌<◌, ◌≤◌, Bool, true, false, cond, eqb, List, [], ◌∷◌, ◌++◌, length, sym, refl, ap, ◌∙◌, ⊎_elim, append-nil, mod-eq_of_lt, arith, le-ltb, lt-ltb, eqb-true, le-leb}
 use borrow.Author.Tests.{eqb-false, lt-leb}
 use Rattle.laws.proofs.Tests.{tested, lt_or_le}
@@ -47,7 +48,7 @@ handled_is x stage cover r f c t d =
 
 module _ (s : List ℕ) (t : Cursor) where
   -- nothing is put once the last line was
-  pub nothing_put : t.ended ≡ true → (out : List ℕ) → PartPut s t (record { written = record { refusal = 0; len = 0 }; cursor = t }) out out
+  pub nothing_put : t.ended ≡ true → (out : List ℕ) → PartPut s t (record { written = Ok 0; cursor = t }) out out
   unfolding part_at cursor_after written after
   nothing_put h out = record {
     writes = record { answer = rw (h, le-leb 0 (length out) (omega arith)); bytes = rw (h, le-leb 0 (length out) (omega arith)) };

@@ -1,9 +1,10 @@
 -- The loop over a file's records: what is written and what is left to list make up the listing.
 -- Assumes nothing.
-use Rattle.std.proofs.Common.{◌≡◌, ℕ, zero, suc, ◌+◌, ◌-◌, ◌<◌, ◌≤◌, true, false, cond, eqb, ◌≢◌, List, [], ◌++◌, length, take, drop, sym, refl, ap, ◌∙◌, ⊎_elim, append_assoc, arith, length-append, length-drop, eqb-true, le-leb}
-use borrow.Author.Tests.{lt-leb, eqb-false}
-use Rattle.laws.proofs.Tests.{tested}
-use Rattle.octets.specs.declared.writing.Written.{Written}
+use Rattle.std.proofs.Common.{◌≡◌, ℕ, zero, suc, ◌+◌, ◌-◌, ◌<◌, ◌≤◌, List, [], ◌++◌, length, take, drop, sym, refl, ap, ◌∙◌, append_assoc, arith, length-append, length-drop, le-leb}
+use borrow.Author.Tests.{lt-leb}
+use Rattle.std.specs.Prelude.{Result, Ok, Err, IsErrAnd}
+use Rattle.refusals.specs.declared.Refusal.{Refusal}
+use Rattle.refusals.specs.declared.Refusal.TheVariants.{OutputTooSmall}
 use Rattle.listing.specs.Lines.{record_lines}
 use Rattle.octets.specs.Writing.{written, Writes}
 use Rattle.octets.specs.Puts.{Puts}
@@ -51,14 +52,19 @@ running_start s e x p h is at_first = rw (is, at_first) (record {
   left = lines_start s h;
 })
 
+-- an answer that `?` passes on
+pub passed_on : (r : Result ℕ Refusal) {w : Result ℕ Refusal} {x : Refusal} → w ≡ Err x → IsErrAnd r (λ e. e ≡ x) → r ≡ w
+passed_on (Ok n) e h = absurd h
+passed_on (Err y) e h = ap Err h ∙ sym e
+
 -- ---- an output with the listing, and one that is too short for it
-ran_fits : (s e e' : List ℕ) (n : ℕ) → n ≤ length e → length e' ≡ length e → Puts (listing s) 0 n e e' → Ran s (record { refusal = 0; len = n }) e e'
+ran_fits : (s e e' : List ℕ) (n : ℕ) → n ≤ length e → length e' ≡ length e → Puts (listing s) 0 n e e' → Ran s (Ok n) e e'
 unfolding written
 ran_fits s e e' n h same p =
     let l : n ≡ length (listing s) = omega (arith, p.place) in
     record { answer = rw (← l, le-leb n (length e) h); bytes = λ f. p.bytes; same_length = same }
 
-ran_long : (s e e' : List ℕ) (w : Written) → w ≡ record { refusal = 27; len = 0 } → length e < length (listing s) → length e' ≡ length e → Ran s w e e'
+ran_long : (s e e' : List ℕ) (w : Result ℕ Refusal) → w ≡ Err OutputTooSmall → length e < length (listing s) → length e' ≡ length e → Ran s w e e'
 unfolding written
 ran_long s e e' w is h same = record { answer = rw (lt-leb (length (listing s)) (length e) h) is; bytes = λ f. absurd (omega arith); same_length = same }
 
@@ -72,21 +78,21 @@ module _ {s e : List ℕ} {p : Place} {x : Session} {number at : ℕ} {e' : List
   running_length : length (lent at k e' y) ≡ length e
   running_length = length_lent at k e' kept y (omega (arith, v.room, v.same)) same ∙ v.same
 
-  text_more : {w : Written} (line : List ℕ) → Writes line w (take k (drop at e')) y → w.refusal ≡ 0
-      → (at + w.len ≤ length e) × Puts (v.text ++ line) 0 (at + w.len) e (lent at k e' y)
+  text_more : {w : Result ℕ Refusal} {n : ℕ} (line : List ℕ) → Writes line w (take k (drop at e')) y → w ≡ Ok n
+      → (at + n ≤ length e) × Puts (v.text ++ line) 0 (at + n) e (lent at k e' y)
   text_more line d z =
       let f = fits d z in (
         omega (arith, v.room, v.same, f.1.place, rw (to_end at k e' kept, length-drop) at f.0),
         puts_puts v.puts (puts_lent at k e' kept f.1) (omega arith),
       )
 
-  text_long : {w : Written} (line : List ℕ) → Writes line w (take k (drop at e')) y → w.refusal ≢ 0 → length e < length v.text + length line
+  text_long : {w : Result ℕ Refusal} {r : Refusal} (line : List ℕ) → Writes line w (take k (drop at e')) y → w ≡ Err r → length e < length v.text + length line
   text_long line d z = omega (arith, v.room, v.same, v.puts.place, rw (to_end at k e' kept, length-drop) at (longer d z).0)
 
   -- a record's lines are written
-  running_more : {w : Written} → p.at < length s → Writes (next_lines number s p x) w (take k (drop at e')) y → w.refusal ≡ 0
-      → Running s e (after_record s p x).place (after_record s p x).session (number + 1) (at + w.len) (lent at k e' y)
-  running_more {w} h d z =
+  running_more : {w : Result ℕ Refusal} {n : ℕ} → p.at < length s → Writes (next_lines number s p x) w (take k (drop at e')) y → w ≡ Ok n
+      → Running s e (after_record s p x).place (after_record s p x).session (number + 1) (at + n) (lent at k e' y)
+  running_more h d z =
       let f = more_left v.fuel number s p x h v.enough in
       let o = onward s p x h in
       let q = text_more (next_lines number s p x) d z in
@@ -103,45 +109,35 @@ module _ {s e : List ℕ} {p : Place} {x : Session} {number at : ℕ} {e' : List
       }
 
   -- they do not fit: then the listing does not
-  running_long : {w : Written} → p.at < length s → Writes (next_lines number s p x) w (take k (drop at e')) y → w.refusal ≢ 0 → Ran s w e (lent at k e' y)
+  running_long : {w : Result ℕ Refusal} {r : Refusal} → p.at < length s → Writes (next_lines number s p x) w (take k (drop at e')) y → w ≡ Err r → Ran s w e (lent at k e' y)
   running_long {w} h d z =
       let f = more_left v.fuel number s p x h v.enough in
       let n = ap length (ap (λ (l : List ℕ). v.text ++ l) (sym f.2) ∙ v.left) in
       ran_long s e (lent at k e' y) w (longer d z).1 (omega (arith, text_long (next_lines number s p x) d z, simp length-append at n)) running_length
 
   -- the last line is written, or does not fit
-  running_end : {w : Written} → length s ≤ p.at → Writes (last_line (state_at p x)) w (take k (drop at e')) y → w.refusal ≡ 0
-      → (at + w.len ≤ length e) × Ran s (record { refusal = 0; len = at + w.len }) e (lent at k e' y)
-  running_end {w} h d z =
+  pub running_end : {w : Result ℕ Refusal} {n : ℕ} → length s ≤ p.at → Writes (last_line (state_at p x)) w (take k (drop at e')) y → w ≡ Ok n
+      → (at + n ≤ length e) × Ran s (Ok (at + n)) e (lent at k e' y)
+  running_end {w} {n} h d z =
       let q = text_more (last_line (state_at p x)) d z in
-      (q.0, ran_fits s e (lent at k e' y) (at + w.len) q.0 running_length (rw (at_end v h) at q.1))
+      (q.0, ran_fits s e (lent at k e' y) (at + n) q.0 running_length (rw (at_end v h) at q.1))
 
-  running_over : {w : Written} → length s ≤ p.at → Writes (last_line (state_at p x)) w (take k (drop at e')) y → w.refusal ≢ 0 → Ran s w e (lent at k e' y)
+  pub running_over : {w : Result ℕ Refusal} {r : Refusal} → length s ≤ p.at → Writes (last_line (state_at p x)) w (take k (drop at e')) y → w ≡ Err r → Ran s w e (lent at k e' y)
   running_over {w} h d z =
       let n = ap length (at_end v h) in
       ran_long s e (lent at k e' y) w (longer d z).1 (omega (arith, text_long (last_line (state_at p x)) d z, simp length-append at n)) running_length
 
-  -- by the answer
-  pub running_last : {w : Written} → length s ≤ p.at → Writes (last_line (state_at p x)) w (take k (drop at e')) y
-      → (at + w.len ≤ length e) × Ran s (cond (eqb w.refusal 0) (record { refusal = 0; len = at + w.len }) w) e (lent at k e' y)
-  running_last {w} h d =
-      ⊎_elim (λ (t : eqb w.refusal 0 ≡ true). rw t (running_end h d (eqb-true w.refusal 0 t)))
-      (λ (t : eqb w.refusal 0 ≡ false).
-      let z = eqb-false w.refusal 0 t in
-      rw t (omega (arith, v.room, ap (λ (a : Written). a.len) (longer d z).1), running_over h d z))
-      (tested (eqb w.refusal 0))
-
 -- ---- the record at p with session x: the session after it, what was said of it was written after at, and w was answered
-pub record Wrote (s e' : List ℕ) (p : Place) (x x' : Session) (number at : ℕ) (w : Written) (e'' : List ℕ) : Type 0 where
+pub record Wrote (s e' : List ℕ) (p : Place) (x x' : Session) (number at : ℕ) (w : Result ℕ Refusal) (e'' : List ℕ) : Type 0 where
   pub runs : x' ≡ (after_record s p x).session
   pub part : List ℕ
   pub same_part : length part ≡ length (take (length e' - at) (drop at e'))
   pub writes : Writes (record_lines number (after_record s p x).said) w (take (length e' - at) (drop at e')) part
   pub left : e'' ≡ lent at (length e' - at) e' part
 
-module _ {s e e' e'' : List ℕ} {p : Place} {x x' : Session} {number at : ℕ} {w : Written} (v : Running s e p x number at e') (d : Wrote s e' p x x' number at w e'') where
-  pub wrote_more : p.at < length s → w.refusal ≡ 0 → (p' : Place) → p' ≡ (after_record s p x).place → Running s e p' x' (number + 1) (at + w.len) e''
+module _ {s e e' e'' : List ℕ} {p : Place} {x x' : Session} {number at : ℕ} {w : Result ℕ Refusal} (v : Running s e p x number at e') (d : Wrote s e' p x x' number at w e'') where
+  pub wrote_more : {n : ℕ} → p.at < length s → w ≡ Ok n → (p' : Place) → p' ≡ (after_record s p x).place → Running s e p' x' (number + 1) (at + n) e''
   wrote_more h z p' is = rw (d.left, d.runs, is) (running_more v (length e' - at) refl d.part d.same_part h d.writes z)
 
-  pub wrote_long : p.at < length s → w.refusal ≢ 0 → Ran s w e e''
+  pub wrote_long : {r : Refusal} → p.at < length s → w ≡ Err r → Ran s w e e''
   wrote_long h z = rw d.left (running_long v (length e' - at) refl d.part d.same_part h d.writes z)

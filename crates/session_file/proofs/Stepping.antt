@@ -2,7 +2,7 @@
 use Rattle.std.proofs.Common.{◌≡◌, ℕ, ◌+◌, ◌<◌, ◌≤◌, Bool, true, false, cond, not, eqb, leb, ◌≢◌, List, [], ◌∷◌, length, drop, sym, refl, ap, ◌∙◌, ⊎_elim, arith, length-drop, eq-eqb, ne_eqb, eqb-true}
 use mathlib.Core.Bool.{false≢true}
 use borrow.Author.Tests.{eqb-false, not-false}
-use Rattle.laws.specs.Checks.{unless, ◌then◌}
+use Rattle.laws.specs.Checks.{unless, first_of}
 use Rattle.laws.proofs.Tests.{tested}
 use Rattle.laws.proofs.Checking.{then_pass}
 use Rattle.credit_math.specs.Limits.{max_orders}
@@ -157,7 +157,7 @@ module _ (x : Session) (stage : ℕ) (cover : Cover) where
   }
 
   header_stepped : (p : Params) (g : Given) (asked : Cover) (n : ℕ) → let f = fields_in (header p g asked) in Stepped x stage cover (header p g asked) f (change_in x cover f) (step_of 0 f n)
-  unfolding step_of early_refusal ◌then◌ file_refusal made said_by said_of
+  unfolding step_of early_refusal first_of file_refusal made said_by said_of
   header_stepped p g asked n =
       ⊎_elim
       (λ (t : eqb (header_refusal p g asked) 0 ≡ true). rw t (record {
@@ -192,7 +192,7 @@ module _ (x : Session) (stage : ℕ) (cover : Cover) where
   order_said row z = rw (eq-eqb (order_refusal x cover row) 0 z)
 
   order_stepped : (row : Row) → let f = fields_in (order row) in Stepped x stage cover (order row) f (change_in x cover f) (step_of 0 f (change_in x cover f).refusal)
-  unfolding step_of early_refusal record_change ◌then◌ file_refusal made said_by said_of
+  unfolding step_of early_refusal record_change first_of file_refusal made said_by said_of
   order_stepped row = record {
     ends = ap (λ (n : ℕ). not (eqb n 0)) (order_number row);
     order_place = (order_placed x cover row).0;
@@ -208,7 +208,7 @@ module _ (x : Session) (stage : ℕ) (cover : Cover) where
   }
 
   call_stepped : (c : Call) → let f = fields_in (call c) in Stepped x stage cover (call c) f (change_in x cover f) (step_of 0 f (change_in x cover f).refusal)
-  unfolding step_of early_refusal record_change ◌then◌ file_refusal made said_of
+  unfolding step_of early_refusal record_change first_of file_refusal made said_of
   call_stepped c =
       ⊎_elim
       (λ (t : eqb (arguments_refusal c) 0 ≡ true). rw (arguments_are c, t) (record {
@@ -237,7 +237,7 @@ module _ (x : Session) (stage : ℕ) (cover : Cover) where
 
   -- a refused reading ends the file
   bad_stepped : (n : ℕ) (f : Fields) (m : ℕ) → n ≢ 0 → Stepped x stage cover (refused n) f (change_in x cover f) (step_of n f m)
-  unfolding step_of early_refusal ◌then◌ file_refusal
+  unfolding step_of early_refusal first_of file_refusal
   bad_stepped n f m z = rw (ne_eqb n 0 z, ne_eqb n 0 z) (stopped (refused n) f n refl z)
 
   pub read_stepped : (rest : List ℕ) → let f = fields_in (fields_of (mark_at rest) (record_at rest)) in

@@ -1,6 +1,7 @@
 -- What the loop over a file's records wrote of one, by the way in which it is run: refused, opening, by a whole call, or by a change in place.
 use Rattle.std.proofs.Common.{◌≡◌, ℕ, ◌-◌, true, false, ◌≢◌, List, [], ◌∷◌, length, take, drop, ap, ◌∙◌}
-use Rattle.octets.specs.declared.writing.Written.{Written}
+use Rattle.std.specs.Prelude.{Result}
+use Rattle.refusals.specs.declared.Refusal.{Refusal}
 use Rattle.octets.specs.Writing.{Writes}
 use Rattle.events.specs.Events.{event_pair, pair_events, events_in}
 use Rattle.events.specs.declared.Event.TheVariants.{Opened, Refused}
@@ -24,7 +25,7 @@ use Rattle.session_file.proofs.Stepping.{Stepped}
 use Rattle.session_file.proofs.Running.{Wrote}
 
 -- the record at p with session x is run as t says, and the part from at on was lent to a writer that answered w and left y
-module _ {s e' e'' : List ℕ} {p : Place} {x x' : Session} {f : Fields} {c : Change} {t : Step} {number at : ℕ} {w w' : Written} {y : List ℕ}
+module _ {s e' e'' : List ℕ} {p : Place} {x x' : Session} {f : Fields} {c : Change} {t : Step} {number at : ℕ} {w w' : Result ℕ Refusal} {y : List ℕ}
     (d : Stepped x p.stage p.cover (read_next p.stage (drop p.at s)) f c t) (same : length y ≡ length (take (length e' - at) (drop at e')))
     (left : e'' ≡ lent at (length e' - at) e' y) (answer : w' ≡ w) where
   pub wrote_refused : {pair : EventPair} → t.refusal ≢ 0 → pair ≡ event_pair (Refused t.refusal ∷ []) → x' ≡ x

@@ -1,7 +1,8 @@
 -- 'C entry | 26; 27 listing longer than the output': the number negated and the output zeroed, else the length, later bytes untouched.
-use Rattle.std.specs.Prelude.{◌≡◌, ℕ, if◌then◌else◌, List, length, replicate, ℤ, pos, negsuc, nat_le}
+use Rattle.std.specs.Prelude.{◌≡◌, ℕ, if◌then◌else◌, List, length, replicate, ℤ, pos, negsuc, nat_le, Result, Ok, Err}
 use Rattle.octets.specs.Writing.{splice}
-use Rattle.octets.specs.declared.writing.Written.{Written}
+use Rattle.refusals.specs.declared.Refusal.{Refusal}
+use Rattle.refusals.specs.declared.Refusal.TheVariants.{InputTooLong, OutputTooSmall}
 use Rattle.session_file.specs.File.{max_input, listing}
 
 -- negsuc n is - (n + 1)
@@ -21,13 +22,13 @@ pub record Entered (input : List ℕ) (r : ℤ) (before after : List ℕ) : Type
   pub answer : r ≡ entry_answer input before
   pub output : after ≡ entry_output input before
 
--- the library's function: the same, with the refusal's number and the length apart
-unfoldable pub list_answer : (input output : List ℕ) → Written
+-- the library's function: the same, with the refusal and the length apart
+unfoldable pub list_answer : (input output : List ℕ) → Result ℕ Refusal
 list_answer s out =
     if nat_le (length s) max_input
-    then (if nat_le (length (listing s)) (length out) then record { refusal = 0; len = length (listing s) } else record { refusal = 27; len = 0 })
-    else record { refusal = 26; len = 0 }
+    then (if nat_le (length (listing s)) (length out) then Ok (length (listing s)) else Err OutputTooSmall)
+    else Err InputTooLong
 
-pub record Listed (input : List ℕ) (r : Written) (before after : List ℕ) : Type 0 where
+pub record Listed (input : List ℕ) (r : Result ℕ Refusal) (before after : List ℕ) : Type 0 where
   pub answer : r ≡ list_answer input before
   pub output : after ≡ entry_output input before

@@ -4,6 +4,7 @@ use Rattle.escrow.specs.declared.Cover.TheVariants.{Unasked}
 use Rattle.events.specs.declared.Event.{Event}
 use Rattle.events.specs.declared.Event.TheVariants.{Refused}
 use Rattle.listing.specs.Lines.{record_lines, max_record}
+use Rattle.refusals.specs.Number.{refusal_in}
 use Rattle.octets.specs.Writing.{Writes}
 use Rattle.auction_engine.specs.declared.Session.{Session}
 use Rattle.session_file.specs.declared.file.Place.{Place}
@@ -74,8 +75,8 @@ cursor_after s t =
 -- what putting the next part does: a part that does not fit leaves the listing where it stood, and with room for any record's lines every part fits
 pub record PartPut (s : List ℕ) (t : Cursor) (r : Part) (before left : List ℕ) : Type 0 where
   pub writes : Writes (part_at s t) r.written before left
-  pub cursor : r.cursor ≡ (if r.written.refusal == 0 then cursor_after s t else t)
-  pub fits : max_record ≤ length before → r.written.refusal ≡ 0
+  pub cursor : r.cursor ≡ (if refusal_in r.written == 0 then cursor_after s t else t)
+  pub fits : max_record ≤ length before → refusal_in r.written ≡ 0
 
 -- n parts in turn
 abbrev pub parts_from : (n : ℕ) → List ℕ → Cursor → List ℕ

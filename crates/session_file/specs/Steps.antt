@@ -1,11 +1,11 @@
 -- What the code hands on while it runs a file: a record, and what is to be done with it. proofs/ shows that it is what File.antt says of the record.
-use Rattle.std.specs.Prelude.{◌≡◌, ℕ, ◌+◌, ◌≤◌, Bool, true, false, if◌then◌else◌, not, ◌&&◌, List, [], ◌∷◌, length, drop, ◌==◌}
+use Rattle.std.specs.Prelude.{◌≡◌, ℕ, ◌+◌, ◌≤◌, Bool, true, false, if◌then◌else◌, not, ◌&&◌, List, [], ◌∷◌, length, drop, ◌==◌, Result}
 use Rattle.laws.specs.Checks.{◌then◌}
 use Rattle.events.specs.Events.{packed}
 use Rattle.events.specs.declared.Event.TheVariants.{Refused}
 use Rattle.events.specs.declared.Events.{Events}
 use Rattle.octets.specs.Writing.{splice, written}
-use Rattle.octets.specs.declared.writing.Written.{Written}
+use Rattle.refusals.specs.declared.Refusal.{Refusal}
 use Rattle.escrow.specs.declared.Cover.{Cover}
 use Rattle.auction_engine.specs.declared.Session.{Session}
 use Rattle.auction_engine.specs.declared.Answer.{Answer}
@@ -64,7 +64,7 @@ unfoldable pub said_all : Answer → Events
 said_all a = if a.refusal == 0 then a.events else packed (Refused a.refusal ∷ [])
 
 -- the listing of a file that is not too long, where it fits
-pub record Ran (input : List ℕ) (r : Written) (before after : List ℕ) : Type 0 where
+pub record Ran (input : List ℕ) (r : Result ℕ Refusal) (before after : List ℕ) : Type 0 where
   pub answer : r ≡ written (listing input) before
   pub bytes : length (listing input) ≤ length before → after ≡ splice 0 (listing input) before
   pub same_length : length after ≡ length before

@@ -33,7 +33,7 @@ pub fn blank(kind: u8, now: i64) -> CallRecord
 pub fn read_screen(rec: &[u8]) -> CallRecord
     ensures { result ≡ record_of (call.screen (time_at rec.now 2) (word 1 rec.now 10) (word 1 rec.now 11) (word 1 rec.now 12) (flag_at rec.now 13) (bytes_at 16 rec.now 14)) }
 {
-    let id = reading::id_at(rec, 14);
+    let id = reading::bytes_at(rec, 14);
     let mut c = blank(auction_engine::SCREEN, reading::time_at(rec, 2));
     c.order = reading::u8_at(rec, 10);
     c.side = reading::u8_at(rec, 11);
@@ -54,7 +54,7 @@ pub fn read_allocate(rec: &[u8]) -> CallRecord
 pub fn read_exercise(rec: &[u8]) -> CallRecord
     ensures { result ≡ record_of (call.exercise (time_at rec.now 2) (bytes_at 32 rec.now 10) (word 4 rec.now 42) (word 8 rec.now 46)) }
 {
-    let issuer = reading::key_at(rec, 10);
+    let issuer = reading::bytes_at(rec, 10);
     let mut c = blank(auction_engine::EXERCISE, reading::time_at(rec, 2));
     c.wallet = issuer;
     c.fill = reading::u32_at(rec, 42);
@@ -65,7 +65,7 @@ pub fn read_exercise(rec: &[u8]) -> CallRecord
 pub fn read_close(rec: &[u8]) -> CallRecord
     ensures { result ≡ record_of (call.close (time_at rec.now 2) (bytes_at 32 rec.now 10)) }
 {
-    let caller = reading::key_at(rec, 10);
+    let caller = reading::bytes_at(rec, 10);
     let mut c = blank(auction_engine::CLOSE, reading::time_at(rec, 2));
     c.wallet = caller;
     c

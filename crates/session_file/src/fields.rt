@@ -166,7 +166,7 @@ fn params_of(rec: &[u8]) -> Params
     let max_cash = reading::u64_at(rec, 26);
     let min_reveals = reading::u8_at(rec, 34);
     let forced = reading::flag_at(rec, 35);
-    let rofr_authority = reading::key_at(rec, 36);
+    let rofr_authority = reading::bytes_at(rec, 36);
     Params {
         reveal_end,
         rofr_window,
@@ -208,7 +208,7 @@ fn cover_of(mark: Mark, rec: &[u8]) -> Cover
 fn row_of(rec: &[u8]) -> Row
     ensures { result ≡ row_of rec.now }
 {
-    let owner = reading::key_at(rec, 2);
+    let owner = reading::bytes_at(rec, 2);
     let side = reading::u8_at(rec, 34);
     let escrowed = reading::u64_at(rec, 35);
     let revealed = reading::flag_at(rec, 43);

@@ -1,15 +1,13 @@
 // Session files: read record by record, run, and listed.
 #![tactic(auto)]
 
-ghost use Rattle.std.specs.Prelude.{◌≡◌, ◌+◌, ◌^◌, ◌<◌, ◌≤◌, not, ◌==◌, length, replicate, if◌then◌else◌};
-ghost use Rattle.octets.specs.Writing.{Writes};
-ghost use Rattle.listing.specs.Lines.{end_line};
+ghost use Rattle.std.specs.Prelude.{◌≤◌, length};
 ghost use Rattle.session_file.specs.File.{max_input};
 ghost use Rattle.session_file.specs.Entry.{Listed, Entered};
 ghost use Rattle.session_file.specs.Steps.{Ran};
 
 use auction_engine::Session;
-use octets::writing::Written;
+use refusals::Refusal;
 
 mod calls;
 pub mod claims;
@@ -22,21 +20,20 @@ mod records;
 pub const MAX_INPUT: usize = 65536;
 
 // The listing of a file at the start of the output, and its length; or 26 or 27, and the whole output zeroed.
-pub fn list_file(input: &[u8], out: &mut [u8]) -> Written
+pub fn list_file(input: &[u8], out: &mut [u8]) -> Result<usize, Refusal>
     ensures { Listed input.now result out.old out.new }
 {
     if MAX_INPUT < input.len() {
-        zero(out);
-        return Written {
-            refusal: refusals::INPUT_TOO_LONG,
-            len: 0,
-        };
+        out.fill(0);
+        return Err(Refusal::InputTooLong);
     }
-    let written = run_file(input, out);
-    if written.refusal != 0 {
-        zero(out);
+    match run_file(input, out) {
+        Ok(len) => Ok(len),
+        Err(refusal) => {
+            out.fill(0);
+            Err(refusal)
+        }
     }
-    written
 }
 
 // The same for a host in C or Rust: the length, or the refusal negated.
@@ -44,15 +41,14 @@ pub fn list_file(input: &[u8], out: &mut [u8]) -> Written
 pub extern "C" fn clear_session_file(input: &[u8], out: &mut [u8]) -> i64
     ensures { Entered input.now result out.old out.new }
 {
-    let written = list_file(input, out);
-    if written.refusal != 0 {
-        return -(written.refusal as i64);
+    match list_file(input, out) {
+        Ok(len) => len as i64,
+        Err(refusal) => -(refusal.number() as i64),
     }
-    written.len as i64
 }
 
 // The records in turn, each record's lines in the part after those already there. What a record changes is written where the session lies.
-fn run_file(input: &[u8], out: &mut [u8]) -> Written
+fn run_file(input: &[u8], out: &mut [u8]) -> Result<usize, Refusal>
     requires { length input.now ≤ max_input }
     ensures { Ran input.now result out.old out.new }
 {
@@ -88,41 +84,15 @@ fn run_file(input: &[u8], out: &mut [u8]) -> Written
             session.order_count = change.order_count;
             listing::put_pair(&mut out[at..], number, change.events)
         };
-        if written.refusal != 0 {
-            return written;
-        }
-        at = at + written.len;
-        number = number + 1;
+        at += written?;
+        number += 1;
         place = file::place_after(place, f, r.width, step.ends, input.len());
     }
-    ended(at, put_last(&mut out[at..], place.stage, session))
-}
-
-fn put_last(out: &mut [u8], stage: u8, s: Session) -> Written
-    ensures { Writes (end_line (not (stage == 0)) s.phase s.skipped_fills) result out.old out.new }
-{
-    listing::put_end(out, stage != 0, s.phase, s.skipped_fills)
-}
-
-// The length of the whole listing, from where its last line stands and what its writer answered; or the refusal.
-fn ended(at: usize, last: Written) -> Written
-    requires { at + last.len < 2 ^ 64 }
-    ensures { result ≡ (if last.refusal == 0 then (record { refusal = 0; len = at + last.len }) else last) }
-{
-    if last.refusal != 0 {
-        return last;
-    }
-    let len = at + last.len;
-    Written { refusal: 0, len }
-}
-
-// What a refusal leaves in the output.
-fn zero(out: &mut [u8])
-    ensures { out.new ≡ replicate (length out.old) 0 }
-{
-    let mut i = 0;
-    while i < out.len() {
-        out[i] = 0;
-        i += 1;
-    }
+    let last = listing::put_end(
+        &mut out[at..],
+        place.stage != records::NO_KIND,
+        session.phase,
+        session.skipped_fills,
+    )?;
+    Ok(at + last)
 }

@@ -9,7 +9,7 @@ use crate::{fields, file, records};
 use auction_engine::Session;
 use auction_engine::changes::Change;
 use events::{Event, Events};
-use octets::writing::Written;
+use refusals::Refusal;
 
 // Where a listing stands: the file's place and session, and the number of the next record.
 #[derive(Clone, Copy, Drop)]
@@ -41,7 +41,7 @@ pub fn begin(too_long: bool) -> Cursor
 // A part: what its writer answered, and where the listing then stands.
 #[derive(Clone, Copy, Drop)]
 pub struct Part {
-    pub written: Written,
+    pub written: Result<usize, Refusal>,
     pub cursor: Cursor,
 }
 
@@ -50,8 +50,10 @@ pub fn put_next(input: &[u8], s: Cursor, out: &mut [u8]) -> Part
     ensures { PartPut input.now s result out.old out.new }
 {
     if s.ended {
-        let written = Written { refusal: 0, len: 0 };
-        return Part { written, cursor: s };
+        return Part {
+            written: Ok(0),
+            cursor: s,
+        };
     }
     let next = next_of(input, s);
     let written = if next.cursor.ended {
@@ -64,7 +66,7 @@ pub fn put_next(input: &[u8], s: Cursor, out: &mut [u8]) -> Part
     } else {
         listing::put_events(out, s.number, next.said)
     };
-    if written.refusal != 0 {
+    if written.is_err() {
         return Part { written, cursor: s };
     }
     let cursor = next.cursor;
@@ -99,7 +101,7 @@ fn whole_refused(s: Cursor, end: usize) -> Next
     ensures { result ≡ whole_refused s end }
 {
     let none = Events::none();
-    let said = none.push(Event::Refused(refusals::INPUT_TOO_LONG));
+    let said = none.push(Event::Refused(Refusal::InputTooLong.number()));
     let mut cursor = s;
     cursor.place.at = end;
     cursor.number = std::num::wrapping_add_u64(s.number, 1);

@@ -54,7 +54,7 @@ pub fn session_in(block: &[u8]) -> Session
 fn params_in(block: &[u8]) -> Params
     ensures { result ≡ params_in block.now }
 {
-    let rofr_authority = reading::key_at(block, 34);
+    let rofr_authority = reading::bytes_at(block, 34);
     Params {
         reveal_end: reading::time_at(block, 0),
         rofr_window: reading::time_at(block, 8),
@@ -104,8 +104,8 @@ fn order_in(block: &[u8], i: usize) -> Order
     ensures { result ≡ order_in block.now i }
 {
     let at = ORDERS_AT + ORDER * i;
-    let owner = reading::key_at(block, at);
-    let investor_id = reading::id_at(block, at + 76);
+    let owner = reading::bytes_at(block, at);
+    let investor_id = reading::bytes_at(block, at + 76);
     Order {
         owner,
         side: reading::u8_at(block, at + 32),
@@ -136,8 +136,8 @@ fn fill_in(block: &[u8], i: usize) -> Fill
     ensures { result ≡ fill_in block.now i }
 {
     let at = FILLS_AT + FILL * i;
-    let buyer = reading::key_at(block, at);
-    let seller = reading::key_at(block, at + 32);
+    let buyer = reading::bytes_at(block, at);
+    let seller = reading::bytes_at(block, at + 32);
     Fill {
         buyer,
         seller,
@@ -150,8 +150,8 @@ fn fill_in(block: &[u8], i: usize) -> Fill
 pub fn call_in(block: &[u8]) -> CallRecord
     ensures { result ≡ call_in block.now }
 {
-    let id = reading::id_at(block, CALL_AT + 12);
-    let wallet = reading::key_at(block, CALL_AT + 29);
+    let id = reading::bytes_at(block, CALL_AT + 12);
+    let wallet = reading::bytes_at(block, CALL_AT + 29);
     CallRecord {
         kind: reading::u8_at(block, CALL_AT),
         now: reading::time_at(block, CALL_AT + 1),

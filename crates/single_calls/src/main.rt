@@ -3,8 +3,6 @@
 // the session in words.
 #![tactic(auto)]
 
-ghost use Rattle.std.specs.Prelude.{◌≤◌, length};
-
 use std::io::Read;
 
 mod image;
@@ -25,25 +23,11 @@ fn main(rt: HostRuntime) {
 // The next block, if there is a whole one.
 fn next(rt: &impl Print, reader: &mut impl Read) -> bool {
     let mut block = [0u8; image::BLOCK];
-    if read_full(reader, &mut block) < image::BLOCK {
+    if reader.read_exact(&mut block).is_err() {
         return false;
     }
     run(rt, &block);
     true
-}
-
-// Reads until the buffer is full, the input ends or a read fails: how many bytes it put at the buffer's start.
-fn read_full(reader: &mut impl Read, buf: &mut [u8]) -> usize
-    ensures { result ≤ length buf.new }
-{
-    let mut n = 0;
-    while n < buf.len() {
-        match reader.read(&mut buf[n..]) {
-            Ok(0) | Err(_) => break,
-            Ok(more) => n += more,
-        }
-    }
-    n
 }
 
 fn run(rt: &impl Print, block: &[u8]) {

@@ -5,5 +5,5 @@ use Rattle.listing.proofs.put_end.Goals as goal
 
 pub returns-then-out-ge-ROOM : goal.returns-then-out-ge-ROOM
 returns-then-out-ge-ROOM c =
-    let p = c.put_last-len.ensures in
+    let p = c.put_last.ensures in
     (in_place_lem p.0 p.1 c.if-out-ge-ROOM.true, λ room. refl)

@@ -6,7 +6,7 @@ use Rattle.listing.proofs.put_pair.Goals as goal
 
 pub returns-then-out-ge-ROOM : goal.returns-then-out-ge-ROOM
 returns-then-out-ge-ROOM c =
-    let p = c.put_pair_lines-len.ensures in
+    let p = c.put_pair_lines.ensures in
     (in_place_lem p.0 p.1 c.if-out-ge-ROOM.true, λ room. refl)
 
 pub returns : goal.returns

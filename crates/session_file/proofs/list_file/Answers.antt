@@ -3,10 +3,10 @@ use Rattle.session_file.proofs.Entry.{listed_big, listed_long, listed_fits}
 use Rattle.session_file.proofs.list_file.Goals as goal
 
 pub returns-then-input-gt-MAX_INPUT : goal.returns-then-input-gt-MAX_INPUT
-returns-then-input-gt-MAX_INPUT c = listed_big _ _ _ c.if-input-gt-MAX_INPUT.true c.zero.ensures
+returns-then-input-gt-MAX_INPUT c = listed_big _ _ _ c.if-input-gt-MAX_INPUT.true (c.fill.ensures.after (λ y e. e))
 
-pub returns-then-written-ne0 : goal.returns-then-written-ne0
-returns-then-written-ne0 c = listed_long c.args.input.now c.if-input-gt-MAX_INPUT.false c.run_file-written.ensures c.if-written-ne0.true _ c.zero-then-written-ne0.ensures
+pub returns-in-Ok : goal.returns-in-Ok
+returns-in-Ok c = listed_fits c.args.input.now c.if-input-gt-MAX_INPUT.false c.in-Ok.ensures
 
-pub returns-else-written-ne0 : goal.returns-else-written-ne0
-returns-else-written-ne0 c = listed_fits c.args.input.now c.if-input-gt-MAX_INPUT.false c.run_file-written.ensures c.if-written-ne0.false
+pub returns-in-Err : goal.returns-in-Err
+returns-in-Err c = listed_long c.args.input.now c.if-input-gt-MAX_INPUT.false c.in-Err.ensures _ (c.fill-in-Err.ensures.after (λ y e. e))

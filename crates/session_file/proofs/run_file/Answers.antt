@@ -3,7 +3,7 @@ use Rattle.std.proofs.Common.{◌-◌, length, refl, ap, ◌∙◌, arith}
 use Rattle.session_file.specs.declared.file.Place.{Place}
 use Rattle.session_file.proofs.Lines.{onward}
 use Rattle.session_file.proofs.Stepping.{code_stepped, code_place, code_fits}
-use Rattle.session_file.proofs.Running.{running_start, running_last, Wrote, wrote_more, wrote_long}
+use Rattle.session_file.proofs.Running.{passed_on, running_start, running_end, running_over, Wrote, wrote_more, wrote_long}
 use Rattle.session_file.proofs.Ways.{wrote_refused, wrote_opened, wrote_applied, wrote_changed}
 use Rattle.session_file.proofs.run_file.Goals.{then-step-ne0, else-step-ne0+then-step, else-step-ne0+else-step+then-change, else-step-ne0+else-step+else-change}
 use Rattle.session_file.proofs.run_file.Goals as goal
@@ -36,8 +36,8 @@ offset_bounds-session-j c =
     let s = code_stepped c.args.input.now l.place l.session c.record_at-r.ensures c.change-change.ensures c.step_of-step.ensures in
     omega (arith, s.fill_place)
 
-pub returns-then-written-ne0 : goal.returns-then-written-ne0
-returns-then-written-ne0 c =
+pub returns-in_err-at : goal.returns-in_err-at
+returns-in_err-at c =
     let l = c.loop-place in
     let s = code_stepped c.args.input.now l.place l.session c.record_at-r.ensures c.change-change.ensures c.step_of-step.ensures in
     let d : Wrote c.args.input.now l.out l.place l.session c.if-step-ne0.session l.number l.at c.if-step-ne0.written c.if-step-ne0.out =
@@ -55,7 +55,7 @@ returns-then-written-ne0 c =
           let p = w.put_pair-else-change in
           wrote_changed s p.auto.out w.out-is w.written-is w.if-step-ne0.false w.if-step.false w.if-change.false w.session-is p.ensures.0
     ] in
-    wrote_long l.invariant d c.loop-place-test.true c.if-written-ne0.true
+    rw (passed_on c.from_residual.result c.in_err-at.was c.from_residual.ensures.1) (wrote_long l.invariant d c.loop-place-test.true c.in_err-at.was)
 
 pub overflow_add-at : goal.overflow_add-at
 overflow_add-at c =
@@ -76,7 +76,7 @@ overflow_add-at c =
           let p = w.put_pair-else-change in
           wrote_changed s p.auto.out w.out-is w.written-is w.if-step-ne0.false w.if-step.false w.if-change.false w.session-is p.ensures.0
     ] in
-    let more = wrote_more l.invariant d c.loop-place-test.true c.if-written-ne0.false _ refl in
+    let more = wrote_more l.invariant d c.loop-place-test.true c.in_ok-at.was _ refl in
     omega (arith, more.room)
 
 pub place_after-place-requires : goal.place_after-place-requires
@@ -111,16 +111,21 @@ loop-place-preserved c =
           wrote_changed s p.auto.out w.out-is w.written-is w.if-step-ne0.false w.if-step.false w.if-change.false w.session-is p.ensures.0
     ] in
     let next = c.place_after-place.ensures ∙ code_place c.args.input.now l.place l.session c.record_at-r.ensures c.change-change.ensures c.step_of-step.ensures in
-    wrote_more l.invariant d c.loop-place-test.true c.if-written-ne0.false c.place_after-place.result next
+    wrote_more l.invariant d c.loop-place-test.true c.in_ok-at.was c.place_after-place.result next
 
-pub ended-requires : goal.ended-requires
-ended-requires c =
+pub returns-in_err-last : goal.returns-in_err-last
+returns-in_err-last c =
     let l = c.loop-place in
-    let e = running_last l.invariant (length l.out - l.at) refl c.put_last.new.out c.put_last.auto.out c.loop-place-test.false c.put_last.ensures in
+    let e = running_over l.invariant (length l.out - l.at) refl c.put_end.new.out c.put_end.auto.out c.loop-place-test.false c.put_end.ensures.0 c.in_err-last.was in
+    rw (passed_on c.from_residual-in_err-last.result c.in_err-last.was c.from_residual-in_err-last.ensures.1) e
+
+pub overflow_add-result : goal.overflow_add-result
+overflow_add-result c =
+    let l = c.loop-place in
+    let e = running_end l.invariant (length l.out - l.at) refl c.put_end.new.out c.put_end.auto.out c.loop-place-test.false c.put_end.ensures.0 c.in_ok-last.was in
     omega (arith, e.0)
 
 pub returns : goal.returns
 returns c =
     let l = c.loop-place in
-    let e = running_last l.invariant (length l.out - l.at) refl c.put_last.new.out c.put_last.auto.out c.loop-place-test.false c.put_last.ensures in
-    rw c.ended.ensures e.1
+    let e = running_end l.invariant (length l.out - l.at) refl c.put_end.new.out c.put_end.auto.out c.loop-place-test.false c.put_end.ensures.0 c.in_ok-last.was in e.1

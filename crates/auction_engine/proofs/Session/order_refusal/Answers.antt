@@ -1,12 +1,12 @@
 -- `auction_engine::Session::order_refusal` meets its contract. By the branches.
 use native.Mathlib.Omega.{arith}
 use borrow.Author.Tests.{le-ltb, lt-ltb}
-use Rattle.laws.specs.Checks.{◌then◌, unless}
+use Rattle.laws.specs.Checks.{first_of, unless}
 use Rattle.laws.proofs.Checking.{then_pass, unless_pass}
 use Rattle.auction_engine.proofs.Session.order_refusal.Goals as goal
 
 pub returns-then-self-i : goal.returns-then-self-i
-unfolding ◌then◌ unless
+unfolding first_of unless
 returns-then-self-i c = rw (le-ltb _ _ c.if-self-i.true)
 
 pub returns : goal.returns

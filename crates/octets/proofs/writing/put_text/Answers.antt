@@ -1,6 +1,12 @@
--- `octets::writing::put_text` meets its contract: by what the answer says, all of the text is copied or nothing.
-use Rattle.octets.proofs.Answers.{wrote_text}
+-- `octets::writing::put_text` meets its contract, by its test.
+use Rattle.std.proofs.Common.{rules}
+use Rattle.octets.specs.Writing.{written, after}
 use Rattle.octets.proofs.writing.put_text.Goals as goal
 
+pub returns-then-room-len : goal.returns-then-room-len
+unfolding written after
+returns-then-room-len c = search rules
+
 pub returns : goal.returns
-returns c = wrote_text c.answer_for-answer.ensures c.put_bytes.ensures
+unfolding written after
+returns c = search rules

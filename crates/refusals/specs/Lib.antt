@@ -1,0 +1,2 @@
+-- The numbers of refusals.
+pub mod Number

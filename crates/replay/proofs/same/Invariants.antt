@@ -1,9 +1,0 @@
--- `replay::same` ends: the loop stays below both lengths.
-use Rattle.std.proofs.Common.{◌≤◌, ◌-◌}
-use Rattle.replay.proofs.same.Given as goal
-
-abbrev pub invariant-loop-i : goal.invariant-loop-i
-invariant-loop-i l = l.i ≤ l.n
-
-abbrev pub decreases-loop-i : goal.decreases-loop-i
-decreases-loop-i l = l.n - l.i
