@@ -7,6 +7,12 @@ use Prim.Native.Nat.{ℕ, ◌≤◌}
 use native.Mathlib.Omega.{arith}
 use lib.IntN.{ℤ}
 use borrow.Author.Tests.{not-true}
+use Rattle.std.proofs.Common.{◌==◌, length, take}
+use Rattle.std.specs.List.{list_all}
+use Rattle.refusals.specs.declared.Refusal.{Refusal}
+use Rattle.refusals.specs.Number.{number}
+use Rattle.laws.proofs.Chains.{every_of}
+use Rattle.book.specs.Book.{no_order}
 use Rattle.laws.specs.Checks.{unless, ◌then◌}
 use Rattle.laws.proofs.Checking.{then_zero, then_stop, then_pass, then_assoc, unless_zero}
 use Rattle.credit_math.specs.Limits.{max_orders}
@@ -23,10 +29,17 @@ use Rattle.auction_engine.specs.Call.{allocate, admits, limits_refusal, fields_r
 use Rattle.auction_engine.specs.Matching.{allocate_checks, after_fills, overfull, fill_events, done, phase_after, allocate_refusal, allocate_effect, allocate_events}
 use Rattle.auction_engine.specs.Engine.{own_refusal, refusal, effect, events, refused_by, answer}
 use Rattle.auction_engine.proofs.Checks.{Within, checked_within, in_stages}
+use Rattle.auction_engine.proofs.Steps.{numbered}
 use Rattle.auction_engine.proofs.Answers.{refused_answer, accepted_answer}
 use Rattle.auction_engine.proofs.FillLoop.{Filled}
 use Rattle.auction_engine.proofs.Fills.{after_fills_phase_after, after_fills_orders, events_fit}
 
+-- the chain over the orders is the test of the definitions
+pub paired_done : (s : Session) → s.order_count ≤ length s.orders → list_all (λ o. o.alloc_left == 0) (take s.order_count s.orders) ≡ done s
+unfolding done
+paired_done s h = every_of (λ o. o.alloc_left == 0) no_order s.orders s.order_count h
+
+-- what a session keeps that these checks let through
 pub checks_within : (s : Session) → allocate_checks s ≡ 0 → Within s
 checks_within s h = checked_within s (then_zero (limits_refusal s then fields_refusal s) (unless (admits s.phase 2) 10) h).0
 
@@ -42,8 +55,10 @@ module _ (s : Session) (now : ℤ) (n : ℕ) where
   pub allocate_number : (m : ℕ) → m ≡ allocate_checks s → (m ≡ 0 → ⊥) → m ≡ refusal s (allocate now n)
   allocate_number m e z = then_stop m (unless (not (overfull n s)) 18) z ∙ ap (λ (x : ℕ). x then unless (not (overfull n s)) 18) e ∙ allocate_stages
 
-  pub allocate_refused : (m : ℕ) (r : Answer) → m ≡ allocate_checks s → (m ≡ 0 → ⊥) → r ≡ refused_by s m → r ≡ answer s (allocate now n)
-  allocate_refused m r e z f = refused_answer s (allocate now n) m (allocate_number m e z) r f z
+  pub allocate_refused : (k : Refusal) → number k ≡ allocate_checks s → refused_by s (number k) ≡ answer s (allocate now n)
+  allocate_refused k e =
+      let z : number k ≡ 0 → ⊥ = λ z. omega (arith, numbered k, z) in
+      refused_answer s (allocate now n) (number k) (allocate_number (number k) e z) (refused_by s (number k)) refl z
 
   pub fills_decide : (r : Answer) → allocate_checks s ≡ 0 → Filled s n r → r.refusal ≡ refusal s (allocate now n)
   fills_decide r z t = t.refusal ∙ then_pass (allocate_checks s) (unless (not (overfull n s)) 18) z ∙ allocate_stages

@@ -8,6 +8,8 @@ use native.Mathlib.Omega.{arith}
 use borrow.Author.Tests.{lt-ltb, ltb-true}
 use lib.Dec.{ltb}
 use lib.ListN.{length, set, length-append}
+use Rattle.std.proofs.Common.{Option, Some, None, if◌then◌else◌, ◌&&◌}
+use Rattle.std.proofs.lemmas.Option.{none-some, some_pair_parts}
 use Rattle.laws.specs.Checks.{unless}
 use Rattle.laws.proofs.Tests.{both}
 use Rattle.credit_math.specs.Limits.{max_orders}
@@ -19,7 +21,6 @@ use Rattle.events.specs.Events.{max_events, line_of, packed, pushed}
 use Rattle.events.proofs.Packed.{push_packed}
 use Rattle.auction_engine.specs.declared.Session.{Session}
 use Rattle.auction_engine.specs.declared.Answer.{Answer}
-use Rattle.auction_engine.specs.declared.matching.Pair.{Pair}
 use Rattle.auction_engine.specs.Session.{left}
 use Rattle.auction_engine.specs.Matching.{buy_at, sell_at, due_at, due, pair, one, after_fills, overfull, fill_events}
 use Rattle.auction_engine.specs.Engine.{refused_by}
@@ -49,8 +50,14 @@ pub record Going (s : Session) (n m : ℕ) (t : Session) (v : Events) : Type 0 w
   pub lines : fill_events n s ≡ made ++ fill_events m t
   pub events : v ≡ packed made
   pub counted : length made ≤ t.fill_count
+  pub room : v.count ≤ t.fill_count
   pub fills : t.fill_count ≤ max_fills
   pub orders : t.order_count ≤ max_orders
+
+-- the count of packed events
+count_le : (v : Events) (l : List Event) (k : ℕ) → v ≡ packed l → length l ≤ k → v.count ≤ k
+unfolding packed
+count_le v l k e h = rw e h
 
 pub going_start : (n : ℕ) (s : Session) (v : Events) → v ≡ packed [] → s.order_count ≤ max_orders → s.fill_count ≤ max_fills → Going s n (n - 0) s v
 going_start n s v e h g =
@@ -65,6 +72,7 @@ going_start n s v e h g =
       lines = refl;
       events = e;
       counted = omega arith;
+      room = count_le v [] s.fill_count e (omega arith);
       fills = g;
       orders = h;
     })
@@ -75,54 +83,55 @@ going_fills s n m t v g d h =
     let e : Event = due_event t in
     let count : (one t).fill_count ≡ t.fill_count + 1 = due_count t d in
     let longer : length (g.made ++ (e ∷ [])) ≡ length g.made + 1 = length-append g.made (e ∷ []) in
+    let packs : pushed v e ≡ packed (g.made ++ (e ∷ [])) = ap (λ (w : Events). pushed w e) g.events ∙ push_packed g.made e (omega (arith, g.counted)) in
     record {
       full = g.full ∙ free_full m t h;
       session = g.session ∙ after_fills_more m t;
       made = g.made ++ (e ∷ []);
       lines = g.lines ∙ ap (λ (l : List Event). g.made ++ l) (due_events t d m) ∙ sym (append_assoc g.made (e ∷ []) (fill_events m (one t)));
-      events = ap (λ (w : Events). pushed w e) g.events ∙ push_packed g.made e (omega (arith, g.counted));
+      events = packs;
       counted = omega (arith, g.counted);
+      room = count_le (pushed v e) (g.made ++ (e ∷ [])) (one t).fill_count packs (omega (arith, g.counted));
       fills = omega arith;
       orders = subst (λ (x : ℕ). x ≤ max_orders) (sym (one_orders t)) g.orders;
     }
 
--- the pair that the code found is the one that is due
-module _ (t : Session) (p : Pair) (e : p ≡ next_pair t.orders t.order_count) where
-  found_due : p.due ≡ due t
+-- what the code found is what is due
+module _ (t : Session) where
+  none_due : None ≡ next_pair t.orders t.order_count → due t ≡ false
   unfolding due due_at
-  found_due = ap (λ (x : Pair). x.due) e
+  none_due e = go (ltb (buy_at t) t.order_count && ltb (sell_at t) t.order_count) e
+    where
+      go : (x : Bool) → ◌≡◌ {A = Option (ℕ × ℕ)} None (if x then Some (buy_at t, sell_at t) else None) → x ≡ false
+      go true e = absurd (none-some {A = ℕ × ℕ} (buy_at t, sell_at t) e)
+      go false e = refl
 
-  found_buy : p.buy ≡ buy_at t
-  unfolding due_at
-  found_buy = ap (λ (x : Pair). x.buy) e
+  pair_due : (b a : ℕ) → Some (b, a) ≡ next_pair t.orders t.order_count → (due t ≡ true) × (b ≡ buy_at t) × (a ≡ sell_at t)
+  unfolding due due_at
+  pair_due b a e = go (ltb (buy_at t) t.order_count && ltb (sell_at t) t.order_count) e
+    where
+      go : (x : Bool) → ◌≡◌ {A = Option (ℕ × ℕ)} (Some (b, a)) (if x then Some (buy_at t, sell_at t) else None) → (x ≡ true) × (b ≡ buy_at t) × (a ≡ sell_at t)
+      go true e = let p = some_pair_parts b (buy_at t) a (sell_at t) e in (refl, p.0, p.1)
+      go false e = absurd (none-some {A = ℕ × ℕ} (b, a) (sym e))
 
-  found_sell : p.sell ≡ sell_at t
-  unfolding due_at
-  found_sell = ap (λ (x : Pair). x.sell) e
-
--- the fill of the pair p, and its event, have a place
-pub record Free (t : Session) (v : Events) (p : Pair) : Type 0 where
-  pub due : p.due ≡ true
+-- the fill of b and a, and its event, have a place
+pub record Free (t : Session) (v : Events) (b a : ℕ) : Type 0 where
   pub fill : t.fill_count < max_fills
   pub event : v.count < max_events
-  pub buy : p.buy < max_orders
-  pub sell : p.sell < max_orders
+  pub buy : b < max_orders
+  pub sell : a < max_orders
 
-pub event_room : (s : Session) (n m : ℕ) (t : Session) (v : Events) → Going s n m t v → t.fill_count < max_fills → v.count < max_events
-unfolding packed
-event_room s n m t v g h = rw g.events (omega (arith, g.counted, h))
-
-pub going_free : (s : Session) (n m : ℕ) (t : Session) (v : Events) (p : Pair) → Going s n m t v → p ≡ next_pair t.orders t.order_count
-    → p.due ≡ true → t.fill_count < max_fills → Free t v p
+pub going_free : (s : Session) (n m : ℕ) (t : Session) (v : Events) (b a : ℕ) → Going s n m t v → Some (b, a) ≡ next_pair t.orders t.order_count
+    → t.fill_count < max_fills → Free t v b a
 unfolding due
-going_free s n m t v p g e f h =
-    let d = both (ltb (buy_at t) t.order_count) (ltb (sell_at t) t.order_count) (sym (found_due t p e) ∙ f) in
+going_free s n m t v b a g e h =
+    let p = pair_due t b a e in
+    let d = both (ltb (buy_at t) t.order_count) (ltb (sell_at t) t.order_count) p.0 in
     record {
-      due = f;
       fill = h;
-      event = event_room s n m t v g h;
-      buy = rw (found_buy t p e) (omega (arith, ltb-true (buy_at t) t.order_count d.0, g.orders));
-      sell = rw (found_sell t p e) (omega (arith, ltb-true (sell_at t) t.order_count d.1, g.orders));
+      event = omega (arith, g.room, h);
+      buy = rw p.1 (omega (arith, ltb-true (buy_at t) t.order_count d.0, g.orders));
+      sell = rw p.2 (omega (arith, ltb-true (sell_at t) t.order_count d.1, g.orders));
     }
 
 -- the answer of at most n fills, by whether one fill was too many
@@ -138,34 +147,35 @@ room_pushed : (v : Events) (e : Event) → v.count < max_events → ◌≡◌ {A
 unfolding pushed
 room_pushed v e h = rw (lt-ltb v.count max_events h)
 
--- a fill as the code comes to it, from the pair that it found
-module _ (s : Session) (n i : ℕ) (t : Session) (v : Events) (p : Pair) (h : i < n) (g : Going s n (n - i) t v) (e : p ≡ next_pair t.orders t.order_count) where
+-- a fill as the code comes to it
+module _ (s : Session) (n i : ℕ) (t : Session) (v : Events) (h : i < n) (g : Going s n (n - i) t v) where
   one_left : Going s n (suc (n - (i + 1))) t v
   one_left = let m : n - i ≡ suc (n - (i + 1)) = omega arith in subst (λ (x : ℕ). Going s n x t v) m g
 
   -- no fill is due
-  pub going_idle : p.due ≡ false → ◌≡◌ {A = Answer} (record { refusal = 0; session = t; events = v }) (filled_by s n)
-  going_idle f =
+  pub going_idle : None ≡ next_pair t.orders t.order_count → ◌≡◌ {A = Answer} (record { refusal = 0; session = t; events = v }) (filled_by s n)
+  going_idle e =
       let m = n - (i + 1) in
       let g : Going s n (suc m) t v = one_left in
-      let d : due t ≡ false = sym (found_due t p e) ∙ f in
+      let d : due t ≡ false = none_due t e in
       filled_by_made s n (g.full ∙ idle_full t d (suc m)) t v (sym (g.session ∙ idle_after_fills t d (suc m)))
       (g.events ∙ ap packed (sym (g.lines ∙ ap (λ (l : List Event). g.made ++ l) (idle_events t d (suc m)) ∙ append-nil g.made)))
 
-  -- one is due, and no place is free
-  pub going_full : p.due ≡ true → max_fills ≤ t.fill_count → refused_by s 18 ≡ filled_by s n
-  going_full f h = filled_by_full s n (one_left.full ∙ due_full t (sym (found_due t p e) ∙ f) (n - (i + 1)) h)
+  module _ (b a : ℕ) (e : Some (b, a) ≡ next_pair t.orders t.order_count) where
+    -- one is due, and no place is free
+    pub going_full : max_fills ≤ t.fill_count → refused_by s 18 ≡ filled_by s n
+    going_full h = filled_by_full s n (one_left.full ∙ due_full t (pair_due t b a e).0 (n - (i + 1)) h)
 
-  -- the fill and its event are written in place
-  pub going_more : Free t v p
-      → let q : ℕ = min (left t p.buy) (left t p.sell) in
-      Going s n (n - (i + 1)) (pair t p.buy p.sell q)
-      (record { lines = set v.lines v.count (line_of (FillAllocated t.fill_count p.buy p.sell q)); count = v.count + 1 })
-  going_more f =
-      let d : due t ≡ true = sym (found_due t p e) ∙ f.due in
-      rw
-      (found_buy t p e, found_sell t p e, ← due_one t d)
-      (subst (Going s n (n - (i + 1)) (one t)) (sym (room_pushed v (due_event t) f.event)) (going_fills s n (n - (i + 1)) t v one_left d f.fill))
+    -- the fill and its event are written in place
+    pub going_more : Free t v b a
+        → let q : ℕ = min (left t b) (left t a) in
+        Going s n (n - (i + 1)) (pair t b a q)
+        (record { lines = set v.lines v.count (line_of (FillAllocated t.fill_count b a q)); count = v.count + 1 })
+    going_more f =
+        let p = pair_due t b a e in
+        rw
+        (p.1, p.2, ← due_one t p.0)
+        (subst (Going s n (n - (i + 1)) (one t)) (sym (room_pushed v (due_event t) f.event)) (going_fills s n (n - (i + 1)) t v one_left p.0 f.fill))
 
 pub going_end : (s : Session) (n i : ℕ) (t : Session) (v : Events) → n ≤ i → Going s n (n - i) t v → ◌≡◌ {A = Answer} (record { refusal = 0; session = t; events = v }) (filled_by s n)
 unfolding after_fills overfull fill_events

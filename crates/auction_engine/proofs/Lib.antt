@@ -1,6 +1,9 @@
 -- Laws of sessions, calls and answers.
-pub mod Phases
+pub mod Chains
 pub mod Checks
+pub mod Steps
+pub mod Passing
+pub mod Pairs
 pub mod Answers
 pub mod Places
 pub mod Lots
@@ -8,7 +11,6 @@ pub mod Clears
 pub mod Fills
 pub mod FillLoop
 pub mod Allocating
-pub mod Purchases
 pub mod Prints
 pub mod Records
 pub mod Changing

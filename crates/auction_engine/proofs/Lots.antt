@@ -2,16 +2,17 @@
 use mathlib.Core.Path.{◌≡◌, refl, ◌∙◌, ap}
 use mathlib.Core.List.{List}
 use Prim.Native.Nat.{ℕ, zero, suc, ◌+◌, ◌≤◌}
-use native.Mathlib.Nat.{le_antisymm}
 use native.Mathlib.Numerals.{add-one}
 use native.Mathlib.Omega.{arith}
-use borrow.Author.Tests.{eq-eqb, ne_eqb}
 use lib.ListN.{get_or, set}
 use lib.Seq.{get_or-set_other}
 use Rattle.book.specs.Book.{order_in}
-use Rattle.book.specs.Clear.{floor_of}
+use Rattle.std.proofs.Common.{Result, Ok, Err}
+use Rattle.book.specs.Clear.{floor_of, outcome_of}
+use Rattle.book.specs.declared.clear.Cross.{Cross}
+use Rattle.book.specs.declared.clear.Failure.{Failure}
+use Rattle.book.specs.declared.clear.Failure.TheVariants.{TooFewReveals, NoCross, MarkUnavailable, Deadline}
 use Rattle.book.specs.declared.Order.{Order}
-use Rattle.book.specs.declared.clear.Outcome.{Outcome}
 use Rattle.auction_engine.specs.declared.Session.{Session}
 use Rattle.auction_engine.specs.Session.{order_at, remake, at_phase, allocating, failed}
 use Rattle.auction_engine.specs.Clearing.{with_lot, with_lots, cleared_by}
@@ -40,24 +41,26 @@ module _ (s : Session) (lots : List ℕ) where
   lots_more i t e =
       ap (λ (u : Session). reordered u (set u.orders i (with_lot (order_at u i) (get_or lots i 0)))) e ∙ rw (add-one i, ahead i i (omega arith))
 
-  lots_end : (n i : ℕ) (t : Session) → t ≡ lotted i → i ≤ n → n ≤ i → t ≡ lotted n
-  lots_end n i t e l k = e ∙ ap lotted (le_antisymm l k)
-
 -- the session as the code comes to it, by whether there is a price
-module _ (s : Session) (found : Outcome) where
+module _ (s : Session) (found : Result Cross Failure) where
   -- with the figures of the price
-  abbrev pub priced : (reserve : ℕ) → Session → Session
-  priced reserve t =
+  abbrev pub priced : Cross → (reserve : ℕ) → Session → Session
+  priced c reserve t =
       remake t
-      (record { clear_price = found.price; cleared_volume = found.volume; reserve_price = reserve; reference_mark = s.given.reference })
+      (record { clear_price = c.price; cleared_volume = c.volume; reserve_price = reserve; reference_mark = s.given.reference })
       allocating t.rofr_qty t.fills_settled t.skipped_fills t.orders t.fills t.fill_count
 
-  pub cleared_not : (found.failed ≡ 0 → ⊥) → at_phase s failed ≡ cleared_by s found
+  pub cleared_not : (f : Failure) → found ≡ Err f → at_phase s failed ≡ cleared_by s (outcome_of (Ok found))
   unfolding cleared_by
-  cleared_not z = rw (ne_eqb found.failed 0 z)
+  cleared_not f e = rw e (go f)
+    where
+      go : (f : Failure) → at_phase s failed ≡ cleared_by s (outcome_of (Ok (Err f)))
+      go TooFewReveals = refl
+      go NoCross = refl
+      go MarkUnavailable = refl
+      go Deadline = refl
 
-  pub cleared_all : found.failed ≡ 0 → (i : ℕ) (t : Session) → t ≡ lotted s found.lots i → i ≤ s.order_count → s.order_count ≤ i
-      → (reserve : ℕ) → reserve ≡ floor_of s.params s.given → priced reserve t ≡ cleared_by s found
+  pub cleared_all : (c : Cross) → found ≡ Ok c → (i : ℕ) (t : Session) → t ≡ lotted s c.lots i → i ≡ s.order_count
+      → (reserve : ℕ) → reserve ≡ floor_of s.params s.given → priced c reserve t ≡ cleared_by s (outcome_of (Ok found))
   unfolding cleared_by
-  cleared_all z i t e l k reserve f =
-      ap (priced reserve) (lots_end s found.lots s.order_count i t e l k) ∙ rw (f, eq-eqb found.failed 0 z)
+  cleared_all c p i t e l reserve f = rw p (ap (priced c reserve) (e ∙ ap (lotted s c.lots) l) ∙ rw f refl)

@@ -1,5 +1,6 @@
 -- The checks of an order in the two stages in which the code finds them, the room that an accepted order has, and what it changes.
 -- Assumes nothing.
+use Rattle.std.specs.Prelude.{Option, Some}
 use mathlib.Core.Path.{◌≡◌, sym, ◌∙◌}
 use mathlib.Core.Logic.{◌≢◌, ⊎_elim}
 use mathlib.Core.Bool.{true, false, not}
@@ -19,8 +20,6 @@ use Rattle.book.specs.Limits.{max_fills}
 use Rattle.book.specs.Book.{no_fill, listed}
 use Rattle.book.specs.declared.Row.{Row}
 use Rattle.escrow.specs.Claims.{Covers}
-use Rattle.escrow.specs.declared.Cover.{Cover}
-use Rattle.escrow.specs.declared.Cover.TheVariants.{Decimals}
 use Rattle.escrow.proofs.Covers.{none_covers, not_refused_covers}
 use Rattle.auction_engine.specs.declared.Session.{Session}
 use Rattle.events.specs.Events.{event_pair}
@@ -30,7 +29,7 @@ use Rattle.auction_engine.specs.Opening.{row_refusal, order_refusal, with_order}
 use Rattle.auction_engine.specs.declared.changes.Change.{Change}
 use Rattle.auction_engine.specs.Changes.{writing, unchanged, order_change, changed}
 
-module _ (s : Session) (cover : Cover) (row : Row) where
+module _ (s : Session) (cover : Option ℕ) (row : Row) where
   -- all but the owner, and the owner
   abbrev pub row_checks : ℕ
   row_checks = row_refusal cover row then unless (ltb s.order_count max_orders) 7
@@ -79,10 +78,10 @@ module _ (s : Session) (cover : Cover) (row : Row) where
       (tested (eqb (order_refusal s cover row) 0))
 
 -- after `SI` an accepted order's escrow covers it: a revealed one by the test, an unrevealed one since it has no quantity
-pub accepted_covered : (s : Session) (decimals : ℕ) (row : Row) → order_refusal s (Decimals decimals) row ≡ 0 → Covers decimals row
+pub accepted_covered : (s : Session) (decimals : ℕ) (row : Row) → order_refusal s (Some decimals) row ≡ 0 → Covers decimals row
 unfolding order_refusal row_refusal
 accepted_covered s decimals row z =
-    let own = (then_zero (row_refusal (Decimals decimals) row) _ z).0 in
+    let own = (then_zero (row_refusal (Some decimals) row) _ z).0 in
     let figures = check_zero _ 5 _ (check_zero _ 5 _ (check_zero _ 3 _ own).1).1 in
     ⊎_elim
     (λ (t : row.revealed ≡ true). not_refused_covers decimals row t figures.1)

@@ -1,5 +1,9 @@
 -- The order of an accepted screen and the fill of an accepted settle or skip are among those of the arrays. Assumes nothing.
-use mathlib.Core.Path.{◌≡◌}
+use Rattle.std.specs.Array.{AllOfLen}
+use Rattle.std.proofs.lemmas.List.{length-replicate, get_or-replicate}
+use Rattle.std.proofs.lemmas.Grind.{same_number_lists}
+use Rattle.std.proofs.Common.{replicate}
+use mathlib.Core.Path.{◌≡◌, sym, ◌∙◌}
 use mathlib.Core.Bool.{Bool}
 use mathlib.Core.List.{List}
 use Prim.Native.Nat.{ℕ, ◌<◌}
@@ -42,3 +46,9 @@ skip_place s now i reason h =
     let a = accepted s (skip now i reason) h in
     let below : i < s.fill_count = ltb-true _ _ (check_zero _ 20 _ (check_zero _ 9 _ a.own).1).0 in
     omega (arith, below, a.within.fills)
+
+-- so many zeros
+pub zeros : (l : List ℕ) (n : ℕ) → AllOfLen (λ x. x ≡ 0) l n → l ≡ replicate n 0
+zeros l n a =
+    same_number_lists l (replicate n 0) (a.long ∙ sym (length-replicate n 0))
+    (λ k h. a.at k 0 (omega (arith, h, a.long)) ∙ sym (get_or-replicate n k 0 0 (omega (arith, h, a.long))))

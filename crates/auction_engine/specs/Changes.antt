@@ -1,6 +1,6 @@
 -- What a call writes that makes no fill and gives no lot: some numbers, one order and one fill. proofs/ shows that its change, written, is its
 -- answer in Engine.antt.
-use Rattle.std.specs.Prelude.{Bool, false, if◌then◌else◌, not, ◌&&◌, [], ◌∷◌, ℕ, nat_lt, nat_le, ◌==◌, set}
+use Rattle.std.specs.Prelude.{Bool, false, if◌then◌else◌, not, ◌&&◌, [], ◌∷◌, ℕ, nat_lt, nat_le, ◌==◌, set, Option}
 use Rattle.std.specs.Int.Signed.{lt_z}
 use Rattle.laws.specs.Sums.{only}
 use Rattle.laws.specs.Checks.{◌then◌}
@@ -8,7 +8,6 @@ use Rattle.book.specs.Book.{listed}
 use Rattle.book.specs.declared.Order.{Order}
 use Rattle.book.specs.declared.Fill.{Fill}
 use Rattle.book.specs.declared.Row.{Row}
-use Rattle.escrow.specs.declared.Cover.{Cover}
 use Rattle.events.specs.Events.{event_pair, pair_events, packed}
 use Rattle.events.specs.declared.Event.TheVariants.{Ordered}
 use Rattle.events.specs.declared.EventPair.{EventPair}
@@ -84,14 +83,14 @@ unfoldable pub change_for : Session → CallRecord → Change
 change_for s r = if nat_le r.kind expire_kind then change_of s (call_of r) else unchanged s (limits_refusal s then 4)
 
 -- the change of an `OR` record: one order more, and its line
-unfoldable pub order_change : Session → Cover → Row → Change
+unfoldable pub order_change : Session → Option ℕ → Row → Change
 order_change s cover row =
     if order_refusal s cover row == 0
     then writing (with_order s row) false s.order_count (listed row) 0 (fill_at s 0) 0 (event_pair (Ordered s.order_count ∷ []))
     else unchanged s (order_refusal s cover row)
 
 -- what an order changes, or else a call record
-unfoldable pub record_change : Session → (is_order : Bool) → Cover → Row → CallRecord → Change
+unfoldable pub record_change : Session → (is_order : Bool) → Option ℕ → Row → CallRecord → Change
 record_change s is_order cover row r = if is_order then order_change s cover row else change_for s r
 
 -- a session with a change written

@@ -3,9 +3,8 @@ use Rattle.std.specs.Prelude.{if◌then◌else◌, not, ◌||◌, List, [], ◌�
 use Rattle.laws.specs.Search.{every}
 use Rattle.laws.specs.Checks.{unless, ◌then◌}
 use Rattle.book.specs.Book.{order_in, reorder}
-use Rattle.book.specs.Clear.{compute_clear, floor_of}
+use Rattle.book.specs.Clear.{compute_clear, floor_of, Outcome}
 use Rattle.book.specs.declared.Order.{Order}
-use Rattle.book.specs.declared.clear.Outcome.{Outcome}
 use Rattle.events.specs.declared.Event.{Event}
 use Rattle.events.specs.declared.Event.TheVariants as event
 use Rattle.auction_engine.specs.declared.Session.{Session}

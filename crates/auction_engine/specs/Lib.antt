@@ -1,6 +1,7 @@
 -- A session, and what each call makes of it, from document 01: 'Phases', 'Turning away' and the source.
 pub mod Session
 pub mod Call
+pub mod Kinds
 pub mod Screening
 pub mod Clearing
 pub mod Matching

@@ -1,20 +1,19 @@
 -- What the private functions of an allocate keep on the way. proofs/ shows that they come to Matching.antt.
-use Rattle.std.specs.Prelude.{if◌then◌else◌, ◌&&◌, List, ℕ, nat_lt}
+use Rattle.std.specs.Prelude.{if◌then◌else◌, ◌&&◌, List, ℕ, nat_lt, Option, Some, None}
 use Rattle.book.specs.Book.{buy_side, sell_side}
 use Rattle.book.specs.declared.Order.{Order}
 use Rattle.events.specs.Events.{packed}
 use Rattle.auction_engine.specs.declared.Session.{Session}
 use Rattle.auction_engine.specs.declared.Answer.{Answer}
-use Rattle.auction_engine.specs.declared.matching.Pair.{Pair}
 use Rattle.auction_engine.specs.Matching.{first_due, after_fills, overfull, fill_events}
 use Rattle.auction_engine.specs.Engine.{refused_by}
 
 -- the two orders that the next fill pairs, if one is due
-abbrev pub next_pair : List Order → ℕ → Pair
+abbrev pub next_pair : List Order → ℕ → Option (ℕ × ℕ)
 next_pair os n =
     let b : ℕ = first_due os n buy_side in
     let a : ℕ = first_due os n sell_side in
-    record { due = nat_lt b n && nat_lt a n; buy = b; sell = a }
+    if nat_lt b n && nat_lt a n then Some (b, a) else None
 
 -- at most n fills; 18, and the session as it was, where one more fill is due and no place is free
 abbrev pub filled_by : Session → (n : ℕ) → Answer

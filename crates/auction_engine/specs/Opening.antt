@@ -1,5 +1,5 @@
 -- The session that a file opens: the rows `SH`, `SI` and `OR`, over values. The reader's contract cites these.
-use Rattle.std.specs.Prelude.{◌≡◌, if◌then◌else◌, not, ◌&&◌, ◌||◌, List, [], ◌∷◌, ℕ, ◌+◌, nat_lt, nat_le, ◌==◌, pos, ◌+ℤ◌, set}
+use Rattle.std.specs.Prelude.{◌≡◌, if◌then◌else◌, not, ◌&&◌, ◌||◌, List, [], ◌∷◌, ℕ, ◌+◌, nat_lt, nat_le, ◌==◌, pos, ◌+ℤ◌, set, Option}
 use Rattle.std.specs.Int.Signed.{lt_z, le_z}
 use Rattle.laws.specs.Search.{some}
 use Rattle.laws.specs.Lists.{same}
@@ -11,7 +11,6 @@ use Rattle.book.specs.declared.Params.{Params}
 use Rattle.book.specs.declared.Given.{Given}
 use Rattle.book.specs.declared.Row.{Row}
 use Rattle.escrow.specs.Cover.{decimals_refusal, cover_refusal}
-use Rattle.escrow.specs.declared.Cover.{Cover}
 use Rattle.disclosure.specs.Disclosure.{max_band}
 use Rattle.auction_engine.specs.declared.Session.{Session}
 use Rattle.auction_engine.specs.Session.{order_at, rewritten, fresh}
@@ -19,7 +18,7 @@ use Rattle.auction_engine.specs.Session.{order_at, rewritten, fresh}
 -- `SH`, `SI` | 4: 'reserve 8 (0 if forced)', policy, 'band_bps 8 (at most 10,000)', of `SI` the decimals; then
 -- 5 unless reveal_end < settle_deadline, window ≥ 0, window 0 without authority, reveal_end + window fits and is below the deadline, min_reveals ≥ 2;
 -- then 6 max_cash 0
-unfoldable pub header_refusal : Params → Given → Cover → ℕ
+unfoldable pub header_refusal : Params → Given → Option ℕ → ℕ
 header_refusal p g cover =
     unless (not (p.forced && nat_lt 0 g.reserve)) 4
     then unless (nat_le g.policy 3) 4
@@ -34,7 +33,7 @@ header_refusal p g cover =
     then unless (nat_lt 0 p.max_cash) 6
 
 -- `OR`, of the row by itself | 4 side; 6 escrow 0, revealed with limit or qty 0, unrevealed with either not 0; 31 uncovered
-unfoldable pub row_refusal : Cover → Row → ℕ
+unfoldable pub row_refusal : Option ℕ → Row → ℕ
 row_refusal cover row =
     unless (nat_le row.side 1) 4
     then unless (nat_lt 0 row.escrowed) 6
@@ -42,7 +41,7 @@ row_refusal cover row =
     then cover_refusal cover row
 
 -- `OR` | these; 7 seventeenth; 8 owner seen
-unfoldable pub order_refusal : Session → Cover → Row → ℕ
+unfoldable pub order_refusal : Session → Option ℕ → Row → ℕ
 order_refusal s cover row =
     row_refusal cover row
     then unless (nat_lt s.order_count max_orders) 7
@@ -60,7 +59,7 @@ with_rows s [] = s
 with_rows s (row ∷ rows) = with_rows (with_order s row) rows
 
 -- each of these orders is accepted where it stands
-abbrev pub RowsAccepted : Session → Cover → List Row → Type 0
+abbrev pub RowsAccepted : Session → Option ℕ → List Row → Type 0
 RowsAccepted s cover [] = Unit
 RowsAccepted s cover (row ∷ rows) = (order_refusal s cover row ≡ 0) × RowsAccepted (with_order s row) cover rows
 
@@ -68,7 +67,7 @@ RowsAccepted s cover (row ∷ rows) = (order_refusal s cover row ≡ 0) × RowsA
 pub record Opening : Type 0 where
   pub params : Params
   pub given : Given
-  pub cover : Cover
+  pub cover : Option ℕ
   pub rows : List Row
   pub header_accepted : header_refusal params given cover ≡ 0
   pub rows_accepted : RowsAccepted (fresh params given) cover rows

@@ -7,8 +7,7 @@ use Rattle.laws.specs.Bits.{is_set, with_bit}
 use Rattle.laws.specs.Checks.{unless, ◌then◌}
 use Rattle.book.specs.declared.Fill.{Fill}
 use Rattle.investors.specs.Participants.{distinct_participants}
-use Rattle.disclosure.specs.Disclosure.{shown}
-use Rattle.disclosure.specs.declared.Disclosed.{Disclosed}
+use Rattle.disclosure.specs.Disclosure.{shown, Disclosed}
 use Rattle.events.specs.declared.Event.{Event}
 use Rattle.events.specs.declared.Event.TheVariants.{FillSettled, FillSkipped, ClearingPrint, SessionFailed, PhaseChanged}
 use Rattle.events.specs.declared.Print.{Print}

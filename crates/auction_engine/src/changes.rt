@@ -1,12 +1,14 @@
 // What a call changes: small enough to be written where the session lives, so that whoever holds a session keeps it in place.
 ghost use Rattle.std.specs.Prelude.{◌≡◌, set};
+ghost use Rattle.refusals.specs.Number.{number, refusal_in};
 ghost use Rattle.auction_engine.specs.Session.{at_phase};
+ghost use Rattle.auction_engine.specs.Kinds.{phase_number};
 ghost use Rattle.auction_engine.specs.Changes.{keeping, unchanged, early, record_change, changed, made_of};
 
-use crate::{Answer, CallRecord, Session, opening};
+use crate::{Answer, CallRecord, Phase, Session, opening};
 use book::{Fill, Order, Row};
-use escrow::Cover;
 use events::EventPair;
+use refusals::Refusal;
 
 #[derive(Clone, Copy, Drop)]
 pub struct Change {
@@ -27,28 +29,26 @@ pub struct Change {
 
 impl Session {
     // What an order that a file lists changes, or else the call that a record says.
-    pub fn change(&self, order: bool, cover: Cover, row: Row, call: CallRecord) -> Change
-        ensures { result ≡ record_change self.now order cover row call }
+    #[tactic(auto, unfolding(crate::specs::Changes::record_change, crate::specs::Changes::change_for, crate::specs::Changes::change_of, crate::specs::Engine::call_of))]
+    pub fn change(&self, order: bool, cover: Option<u8>, row: &Row, call: CallRecord) -> Change
+        ensures { result ≡ record_change self.now order cover row.now call }
     {
         if order {
             return opening::order_change(self, cover, row);
         }
-        let kind = call.kind;
-        let id = call.id;
-        let wallet = call.wallet;
-        match kind {
+        match call.kind {
             0 => self.screen_change(
                 call.now,
                 call.order,
                 call.side,
                 call.verdict,
                 call.has_id,
-                id,
+                &call.id,
             ),
             1 => self.clear_change(call.now),
             2 => self.allocate_change(),
-            3 => self.exercise_change(call.now, wallet, call.fill, call.qty),
-            4 => self.close_change(call.now, wallet),
+            3 => self.exercise_change(call.now, &call.wallet, call.fill, call.qty),
+            4 => self.close_change(call.now, &call.wallet),
             5 => self.settle_change(call.fill),
             6 => self.skip_change(call.now, call.fill, call.reason),
             7 => self.finish_change(call.now),
@@ -57,21 +57,26 @@ impl Session {
         }
     }
 
-    // Refused by that number, or undecided.
-    pub(crate) fn early(&self, refusal: u8) -> Change
-        ensures { result ≡ early self.now refusal }
+    // Refused, or undecided.
+    pub(crate) fn early(&self, answer: Result<(), Refusal>) -> Change
+        ensures { result ≡ early self.now (refusal_in answer) }
     {
-        let mut c = self.unchanged(refusal);
-        c.undecided = refusal == 0;
-        c
+        match answer {
+            Err(refusal) => self.unchanged(refusal),
+            Ok(()) => {
+                let mut c = self.keeping(EventPair::none());
+                c.undecided = true;
+                c
+            }
+        }
     }
 
-    // Nothing is changed; the refusal is the caller's.
-    pub(crate) fn unchanged(&self, refusal: u8) -> Change
-        ensures { result ≡ unchanged self.now refusal }
+    // Nothing is changed.
+    pub(crate) fn unchanged(&self, refusal: Refusal) -> Change
+        ensures { result ≡ unchanged self.now (number refusal) }
     {
         let mut c = self.keeping(EventPair::none());
-        c.refusal = refusal;
+        c.refusal = refusal.number();
         c
     }
 
@@ -79,10 +84,6 @@ impl Session {
     pub(crate) fn keeping(&self, events: EventPair) -> Change
         ensures { result ≡ keeping self.now 0 events }
     {
-        let orders = self.orders;
-        let fills = self.fills;
-        let order = orders[0];
-        let fill = fills[0];
         Change {
             undecided: false,
             refusal: 0,
@@ -90,20 +91,20 @@ impl Session {
             fills_settled: self.fills_settled,
             skipped_fills: self.skipped_fills,
             order_at: 0,
-            order,
+            order: self.orders[0],
             order_count: self.order_count,
             fill_at: 0,
-            fill,
+            fill: self.fills[0],
             events,
         }
     }
 
     // Another phase.
-    pub(crate) fn phase_change(&self, to: u8, events: EventPair) -> Change
-        ensures { result ≡ keeping (at_phase self.now to) 0 events }
+    pub(crate) fn phase_change(&self, to: Phase, events: EventPair) -> Change
+        ensures { result ≡ keeping (at_phase self.now (phase_number to)) 0 events }
     {
         let mut c = self.keeping(events);
-        c.phase = to;
+        c.phase = to as u8;
         c
     }
 
@@ -111,12 +112,10 @@ impl Session {
     pub(crate) fn made(self, c: Change) -> Answer
         ensures { result ≡ made_of self c }
     {
-        let said = c.events;
-        let session = self.changed(c);
         Answer {
             refusal: c.refusal,
-            session,
-            events: said.all(),
+            session: self.changed(c),
+            events: c.events.all(),
         }
     }
 
@@ -124,15 +123,9 @@ impl Session {
     pub fn changed(self, c: Change) -> Session
         ensures { result ≡ changed self c }
     {
-        let order = c.order;
-        let fill = c.fill;
-        let orders = self.orders;
-        let fills = self.fills;
-        let orders_after = with_order(orders, c.order_at, order);
-        let fills_after = with_fill(fills, c.fill_at, fill);
         let mut session = self;
-        session.orders = orders_after;
-        session.fills = fills_after;
+        put(&mut session.orders, c.order_at, c.order);
+        put(&mut session.fills, c.fill_at, c.fill);
         session.phase = c.phase;
         session.fills_settled = c.fills_settled;
         session.skipped_fills = c.skipped_fills;
@@ -141,30 +134,11 @@ impl Session {
     }
 }
 
-// Another order at a place of the array.
-fn with_order(
-    orders: [Order; Session::MAX_ORDERS],
-    at: usize,
-    order: Order,
-) -> [Order; Session::MAX_ORDERS]
-    ensures { result ≡ set orders at order }
+// Something else at a place, where there is one.
+fn put<T: Copy>(places: &mut [T], at: usize, x: T)
+    ensures { places.new ≡ set places.old at x }
 {
-    let mut out = orders;
-    if at < Session::MAX_ORDERS {
-        out[at] = order;
-        return out;
+    if at < places.len() {
+        places[at] = x;
     }
-    out
-}
-
-// Another fill.
-fn with_fill(fills: [Fill; Session::MAX_FILLS], at: usize, fill: Fill) -> [Fill; Session::MAX_FILLS]
-    ensures { result ≡ set fills at fill }
-{
-    let mut out = fills;
-    if at < Session::MAX_FILLS {
-        out[at] = fill;
-        return out;
-    }
-    out
 }

@@ -1,21 +1,22 @@
 // The auction engine from the reveal on: a session, and the nine calls on it.
 #![tactic(auto)]
 
-ghost use Rattle.std.specs.Prelude.{◌≡◌, true, false, not, ◌||◌, [], ◌+◌, ◌<◌, ◌≤◌, nat_le, ◌==◌};
-ghost use Rattle.laws.specs.Search.{every};
+ghost use Rattle.std.specs.Prelude.{◌≡◌, ◌≤◌};
+ghost use Rattle.refusals.specs.Number.{number, refusal_in};
 ghost use Rattle.laws.specs.Checks.{◌then◌};
 ghost use Rattle.credit_math.specs.Limits.{max_orders};
-ghost use Rattle.book.specs.Book.{order_in};
 ghost use Rattle.auction_engine.specs.Session.{fresh};
 ghost use Rattle.auction_engine.specs.Call.{admits, limits_refusal, fields_refusal, in_window};
 ghost use Rattle.auction_engine.specs.Engine.{refused_by, record_arguments, applied};
+ghost use Rattle.auction_engine.specs.Kinds.{kind_number};
 
 use book::{Fill, Given, Order, Params};
 use events::Events;
-use laws::checks::{both, first_of, unless};
+use refusals::Refusal;
 
 pub mod changes;
 pub mod clearing;
+mod first_checks;
 pub mod matching;
 pub mod opening;
 pub mod rofr;
@@ -23,7 +24,7 @@ pub mod screening;
 pub mod settlement;
 
 // What an accepted clear found.
-#[derive(Clone, Copy, Drop)]
+#[derive(Clone, Copy, Debug, Default, PartialEq, Eq)]
 pub struct Cleared {
     pub clear_price: u64,
     pub cleared_volume: u64,
@@ -31,12 +32,12 @@ pub struct Cleared {
     pub reference_mark: u64,
 }
 
-#[derive(Clone, Copy, Drop)]
+#[derive(Clone, Copy, Debug, PartialEq, Eq)]
 pub struct Session {
     pub params: Params,
     pub given: Given,
     pub cleared: Cleared,
-    // Commit 0, Reveal 1, Allocating 2, IssuerRofr 3, Settling 4, Printed 5, Failed 6, Clearing 7.
+    // The number of a `Phase`.
     pub phase: u8,
     // What the issuer has bought; it stops at 64 bits.
     pub rofr_qty: u64,
@@ -59,45 +60,34 @@ impl Session {
     pub fn new(params: Params, given: Given) -> Self
         ensures { result ≡ fresh params given }
     {
-        let order = Order::empty();
-        let fill = Fill::empty();
-        let orders = [order; Session::MAX_ORDERS];
-        let fills = [fill; Session::MAX_FILLS];
-        let cleared = Cleared {
-            clear_price: 0,
-            cleared_volume: 0,
-            reserve_price: 0,
-            reference_mark: 0,
-        };
         Session {
             params,
             given,
-            cleared,
-            phase: REVEAL,
+            cleared: Cleared::default(),
+            phase: Phase::Reveal as u8,
             rofr_qty: 0,
             fills_settled: 0,
             skipped_fills: 0,
-            orders,
+            orders: [Order::default(); Session::MAX_ORDERS],
             order_count: 0,
-            fills,
+            fills: [Fill::default(); Session::MAX_FILLS],
             fill_count: 0,
         }
     }
 }
 
-const REVEAL: u8 = 1;
-
-const ALLOCATING: u8 = 2;
-
-const ISSUER_ROFR: u8 = 3;
-
-const SETTLING: u8 = 4;
-
-const PRINTED: u8 = 5;
-
-const FAILED: u8 = 6;
-
-const CLEARING: u8 = 7;
+// A session's phase, by its number: a library call refuses a number above 7, so a session holds any.
+#[derive(Clone, Copy, Debug, PartialEq, Eq)]
+pub enum Phase {
+    Commit,
+    Reveal,
+    Allocating,
+    IssuerRofr,
+    Settling,
+    Printed,
+    Failed,
+    Clearing,
+}
 
 // What a call answers: the number of its refusal or 0, the session that it hands back, and its events.
 #[derive(Clone, Copy, Drop)]
@@ -109,14 +99,20 @@ pub struct Answer {
 
 impl Answer {
     // A refused call hands the session back as it was given, with no event.
-    pub fn refused(session: Session, refusal: u8) -> Self
+    pub fn refused(session: Session, refusal: Refusal) -> Self
+        ensures { result ≡ refused_by session (number refusal) }
+    {
+        Answer::refused_by_number(session, refusal.number())
+    }
+
+    // The same of a number.
+    pub fn refused_by_number(session: Session, refusal: u8) -> Self
         ensures { result ≡ refused_by session refusal }
     {
-        let events = Events::none();
         Answer {
             refusal,
             session,
-            events,
+            events: Events::none(),
         }
     }
 }
@@ -141,7 +137,7 @@ pub const FINISH: u8 = 7;
 pub const EXPIRE: u8 = 8;
 
 // A call with its arguments: each kind reads those of its own.
-#[derive(Clone, Copy, Drop)]
+#[derive(Clone, Copy, Debug, Default, PartialEq, Eq)]
 pub struct CallRecord {
     pub kind: u8,
     pub now: i64,
@@ -165,6 +161,7 @@ impl Session {
     // The call that a record says. A kind above 8 is an argument outside its values: 9, then 4. Not put into the loop over a file's records, where few
     // calls come to it and all would pay for its frame.
     #[inline(never)]
+    #[tactic(auto, unfolding(crate::specs::Engine::applied, crate::specs::Engine::call_of))]
     pub fn apply(self, call: CallRecord) -> Answer
         ensures { result ≡ applied self call }
     {
@@ -193,164 +190,55 @@ impl Session {
     }
 
     // What refuses a record of a kind above 8.
-    pub(crate) fn no_such_call(&self) -> u8
-        ensures { result ≡ limits_refusal self.now then 4 }
+    #[tactic(auto, unfolding(laws::specs::Checks::first_of))]
+    pub(crate) fn no_such_call(&self) -> Refusal
+        ensures { number result ≡ limits_refusal self.now then 4 }
     {
-        first_of(self.limits_refusal(), refusals::BAD_FIELD)
+        match self.limits_refusal() {
+            Err(refusal) => refusal,
+            Ok(()) => Refusal::BadField,
+        }
     }
 }
 
-// 4 where a call's own arguments are outside their values, else 0: what ends a file.
-pub fn arguments_refusal(call: CallRecord) -> u8
-    ensures { result ≡ record_arguments call }
+// The kinds of calls.
+#[derive(Clone, Copy, Debug, PartialEq, Eq)]
+pub(crate) enum Kind {
+    Screen,
+    Clear,
+    Allocate,
+    Exercise,
+    Close,
+    Settle,
+    Skip,
+    Finish,
+    Expire,
+}
+
+// 4 where a call's own arguments are outside their values: what ends a file.
+#[tactic(auto, unfolding(laws::specs::Checks::unless, laws::specs::Checks::first_of, crate::specs::Engine::record_arguments, crate::specs::Engine::call_of, crate::specs::Call::arguments_refusal))]
+pub fn arguments_refusal(call: CallRecord) -> Result<(), Refusal>
+    ensures { refusal_in result ≡ record_arguments call }
 {
-    let kind = call.kind;
-    let id = call.id;
-    match kind {
-        0 => screening::arguments_refusal(call.side, call.verdict, call.has_id, id),
-        6 => unless(call.reason <= 6, refusals::BAD_FIELD),
-        _ => unless(kind <= EXPIRE, refusals::BAD_FIELD),
+    match call.kind {
+        0 => screening::arguments_refusal(call.side, call.verdict, call.has_id, &call.id),
+        6 => Refusal::BadField.unless(call.reason <= 6),
+        kind => Refusal::BadField.unless(kind <= EXPIRE),
     }
 }
 
 // Whether a call of that kind is let in at that phase.
-pub(crate) fn admits(phase: u8, kind: u8) -> bool
-    ensures { result ≡ admits phase kind }
+#[tactic(auto, unfolding(crate::specs::Call::admits))]
+pub(crate) fn admits(phase: u8, kind: Kind) -> bool
+    ensures { result ≡ admits phase (kind_number kind) }
 {
-    match kind {
-        0 => before_clear(phase),
-        1 => before_clear(phase),
-        2 => in_allocating(phase),
-        3 => in_rofr(phase),
-        4 => in_rofr(phase),
-        5 => in_settling(phase),
-        6 => in_settling(phase),
-        7 => in_settling(phase),
-        8 => not_ended(phase),
+    match (kind, phase) {
+        (Kind::Screen | Kind::Clear, 0 | 1 | 7) => true,
+        (Kind::Allocate, 2) => true,
+        (Kind::Exercise | Kind::Close, 3) => true,
+        (Kind::Settle | Kind::Skip | Kind::Finish, 4) => true,
+        (Kind::Expire, 5 | 6) => false,
+        (Kind::Expire, _) => true,
         _ => false,
     }
-}
-
-// The phases of document 01 in which each kind of call is admitted.
-fn before_clear(phase: u8) -> bool
-    ensures { result ≡ (phase == 0 || phase == 1 || phase == 7) }
-{
-    match phase {
-        0 => true,
-        1 => true,
-        7 => true,
-        _ => false,
-    }
-}
-
-fn in_allocating(phase: u8) -> bool
-    ensures { result ≡ (phase == 2) }
-{
-    match phase {
-        2 => true,
-        _ => false,
-    }
-}
-
-fn in_rofr(phase: u8) -> bool
-    ensures { result ≡ (phase == 3) }
-{
-    match phase {
-        3 => true,
-        _ => false,
-    }
-}
-
-fn in_settling(phase: u8) -> bool
-    ensures { result ≡ (phase == 4) }
-{
-    match phase {
-        4 => true,
-        _ => false,
-    }
-}
-
-fn not_ended(phase: u8) -> bool
-    ensures { result ≡ not (phase == 5 || phase == 6) }
-{
-    match phase {
-        5 => false,
-        6 => false,
-        _ => true,
-    }
-}
-
-impl Session {
-    // What any call checks first: 9, then 4 for a field of the session.
-    fn checked(&self) -> u8
-        ensures { result ≡ limits_refusal self.now then fields_refusal self.now }
-    {
-        let over = self.limits_refusal();
-        if over != 0 {
-            return over;
-        }
-        self.fields_refusal()
-    }
-
-    // 9: a count or a figure above its limit.
-    fn limits_refusal(&self) -> u8
-        ensures { result ≡ limits_refusal self.now }
-    {
-        let p = self.params;
-        let g = self.given;
-        let orders = unless(
-            self.order_count <= Session::MAX_ORDERS,
-            refusals::OVER_LIMIT,
-        );
-        let fills = unless(self.fill_count <= Session::MAX_FILLS, refusals::OVER_LIMIT);
-        let band = unless(g.band_bps <= disclosure::MAX_BAND, refusals::OVER_LIMIT);
-        let reserve = unless(!both(p.forced, 0 < g.reserve), refusals::OVER_LIMIT);
-        let times = unless(
-            clock::sum_fits(p.reveal_end, p.rofr_window),
-            refusals::OVER_LIMIT,
-        );
-        first_of(
-            orders,
-            first_of(fills, first_of(band, first_of(reserve, times))),
-        )
-    }
-
-    // 4: a field of the session outside its values.
-    fn fields_refusal(&self) -> u8
-        requires { self.now.order_count ≤ max_orders }
-        ensures { result ≡ fields_refusal self.now }
-    {
-        let g = self.given;
-        let orders = self.orders;
-        let phase = unless(self.phase <= CLEARING, refusals::BAD_FIELD);
-        let policy = unless(g.policy <= 3, refusals::BAD_FIELD);
-        let sides = unless(sides_ok(orders, self.order_count), refusals::BAD_FIELD);
-        first_of(phase, first_of(policy, sides))
-    }
-
-    // From the end of the reveals up to, without, the deadline.
-    fn in_window(&self, now: i64) -> bool
-        ensures { result ≡ in_window self.now now }
-    {
-        let p = self.params;
-        both(
-            clock::not_before(now, p.reveal_end),
-            clock::before(now, p.settle_deadline),
-        )
-    }
-}
-
-fn sides_ok(orders: [Order; Session::MAX_ORDERS], n: usize) -> bool
-    requires { n ≤ max_orders }
-    ensures { result ≡ every (λ i. nat_le (order_in orders i).side 1) n }
-{
-    let mut i = 0;
-    while i < n {
-        let o = orders[i];
-        if 1 < o.side {
-            return false;
-        }
-        i += 1;
-    }
-    true
 }

@@ -1,72 +1,68 @@
 // The call `allocate`: buyers and sellers with something left are paired, in book order, at most as often as the call allows.
-ghost use Rattle.std.specs.Prelude.{◌≡◌, if◌then◌else◌, not, ◌+◌, ◌<◌, ◌≤◌, min, nat_lt, ◌==◌};
+ghost use Rattle.std.specs.Prelude.{◌≡◌, not, ◌<◌, ◌≤◌, ◌==◌};
+ghost use Rattle.std.specs.List.{list_all, position};
+ghost use Rattle.refusals.specs.Number.{refusal_in};
 ghost use Rattle.laws.specs.Sums.{only};
-ghost use Rattle.laws.specs.Search.{every};
 ghost use Rattle.credit_math.specs.Limits.{max_orders};
 ghost use Rattle.book.specs.Limits as limits;
-ghost use Rattle.book.specs.Book.{order_in};
 ghost use Rattle.events.specs.Events.{line_of};
 ghost use Rattle.events.specs.declared.Event.TheVariants.{FillAllocated};
 ghost use Rattle.auction_engine.specs.Call as call;
-ghost use Rattle.auction_engine.specs.Matching.{allocate_checks, less_left, due_on, fill_of, phase_after};
+ghost use Rattle.auction_engine.specs.Kinds.{phase_number};
+ghost use Rattle.auction_engine.specs.Matching.{allocate_checks, less_left, due_on, fill_of, done, phase_after};
 ghost use Rattle.auction_engine.specs.NextFill.{next_pair, filled_by};
 ghost use Rattle.auction_engine.specs.Engine.{answer};
 ghost use Rattle.auction_engine.specs.Changes.{early};
 
 use crate::changes::Change;
-use crate::{Answer, Session};
+use crate::{Answer, Kind, Phase, Session};
 use book::{Fill, Order};
 use events::{Event, Events, Line};
-use laws::checks::{both, first_of, unless};
+use refusals::Refusal;
 
 impl Session {
     // At most `max_fills` fills more; the phase moves on once every lot is paired. The clock is not read.
+    #[tactic(auto, using(crate::proofs::Allocating::allocate_refused))]
     pub fn allocate(self, now: i64, max_fills: u8) -> Answer
         ensures { result ≡ answer self (call.allocate now max_fills) }
     {
-        let refusal = self.allocate_refusal();
-        if refusal != 0 {
+        if let Err(refusal) = self.allocate_refusal() {
             return Answer::refused(self, refusal);
         }
         let mut r = self.filled_by(max_fills);
         if r.refusal != 0 {
             return r;
         }
-        let orders = r.session.orders;
-        if !none_left(orders, r.session.order_count) {
+        if !r.session.all_paired() {
             return r;
         }
         let to = self.phase_after();
-        let fills = r.events;
-        let events = fills.push(Event::PhaseChanged {
+        r.events = r.events.push(Event::PhaseChanged {
             from: self.phase,
-            to,
+            to: to as u8,
         });
-        r.session.phase = to;
-        r.events = events;
+        r.session.phase = to as u8;
         r
     }
 
     // Refused for sure by its phase; else undecided.
+    #[tactic(auto, unfolding(laws::specs::Sums::only))]
     pub(crate) fn allocate_change(&self) -> Change
         ensures { result ≡ early self.now (only (not (call.admits self.now.phase call.allocate_kind)) (allocate_checks self.now)) }
     {
-        if crate::admits(self.phase, crate::ALLOCATE) {
-            return self.early(0);
+        if crate::admits(self.phase, Kind::Allocate) {
+            return self.early(Ok(()));
         }
         self.early(self.allocate_refusal())
     }
 
     // All checks but the last, 18, which the fills have.
-    fn allocate_refusal(&self) -> u8
-        ensures { result ≡ allocate_checks self.now }
+    #[tactic(auto, unfolding(laws::specs::Checks::unless, laws::specs::Checks::first_of, crate::specs::Matching::allocate_checks))]
+    fn allocate_refusal(&self) -> Result<(), Refusal>
+        ensures { refusal_in result ≡ allocate_checks self.now }
     {
-        let bad = self.checked();
-        let phase = unless(
-            crate::admits(self.phase, crate::ALLOCATE),
-            refusals::WRONG_PHASE,
-        );
-        first_of(bad, phase)
+        self.checked()?;
+        Refusal::WrongPhase.unless(crate::admits(self.phase, Kind::Allocate))
     }
 
     // At most n fills, each written in place: a session is too large to copy for each. 18 where one more is due and no place free.
@@ -76,33 +72,24 @@ impl Session {
     {
         let mut session = self;
         let mut events = Events::none();
-        let mut i: u8 = 0;
-        while i < n {
-            let next = next_pair(session.orders, session.order_count);
+        for _ in 0..n {
             let at = session.fill_count;
-            if !next.due {
-                return Answer {
-                    refusal: 0,
-                    session,
-                    events,
-                };
-            }
+            let Some((b, a)) = session.next_pair() else {
+                break;
+            };
             if Session::MAX_FILLS <= at {
-                return Answer::refused(self, refusals::FILLS_FULL);
+                return Answer::refused(self, Refusal::FillsFull);
             }
-            let b = next.buy;
-            let a = next.sell;
             let buy = session.orders[b];
             let sell = session.orders[a];
-            let qty = smaller(buy.alloc_left, sell.alloc_left);
-            session.orders[b] = less_left(buy, qty);
-            session.orders[a] = less_left(sell, qty);
-            session.fills[at] = fill_of(buy, sell, qty);
+            let qty = buy.alloc_left.min(sell.alloc_left);
+            session.orders[b] = less_left(&buy, qty);
+            session.orders[a] = less_left(&sell, qty);
+            session.fills[at] = fill_of(&buy, &sell, qty);
             session.fill_count = at + 1;
             let end = events.count;
             events.lines[end] = fill_line(at, b, a, qty);
             events.count = end + 1;
-            i += 1;
         }
         Answer {
             refusal: 0,
@@ -111,90 +98,71 @@ impl Session {
         }
     }
 
-    // IssuerRofr with an authority, else Settling.
-    fn phase_after(&self) -> u8
-        ensures { result ≡ phase_after self.now }
+    // The buy and the sell of the next fill; none is due where a side has nothing left.
+    #[tactic(auto, using(crate::proofs::Pairs::next_without_buy, crate::proofs::Pairs::next_without_sell, crate::proofs::Pairs::next_found))]
+    fn next_pair(&self) -> Option<(usize, usize)>
+        requires { self.now.order_count ≤ max_orders }
+        ensures { result ≡ next_pair self.now.orders self.now.order_count }
     {
-        let p = self.params;
-        let authority = p.rofr_authority;
-        if book::same_key(authority, [0; 32]) {
-            return crate::SETTLING;
+        let orders = &self.orders[..self.order_count];
+        let buy = due_place(orders, 0)?;
+        let sell = due_place(orders, 1)?;
+        Some((buy, sell))
+    }
+
+    // Every lot is paired.
+    #[tactic(auto, using(crate::proofs::Allocating::paired_done))]
+    fn all_paired(&self) -> bool
+        requires { self.now.order_count ≤ max_orders }
+        ensures { result ≡ done self.now }
+    {
+        none_left(&self.orders[..self.order_count])
+    }
+
+    // IssuerRofr with an authority, else Settling.
+    #[tactic(auto, unfolding(crate::specs::Matching::phase_after))]
+    fn phase_after(&self) -> Phase
+        ensures { phase_number result ≡ phase_after self.now }
+    {
+        if self.params.rofr_authority == [0; 32] {
+            return Phase::Settling;
         }
-        crate::ISSUER_ROFR
+        Phase::IssuerRofr
     }
 }
 
-// The two orders of the next fill; none is due where a side has nothing left.
-#[derive(Clone, Copy, Drop)]
-struct Pair {
-    due: bool,
-    buy: usize,
-    sell: usize,
+fn none_left(orders: &[Order]) -> bool
+    ensures { result ≡ list_all (λ o. o.alloc_left == 0) orders.now }
+{
+    orders.iter().all(|o| o.alloc_left == 0)
 }
 
-// One pass for both sides, since every function that is handed the orders copies them.
-fn next_pair(orders: [Order; Session::MAX_ORDERS], n: usize) -> Pair
-    requires { n ≤ max_orders }
-    ensures { result ≡ next_pair orders n }
+// The first order of that side with something left.
+fn due_place(orders: &[Order], side: u8) -> Option<usize>
+    ensures { result ≡ position (λ o. due_on side o) orders.now }
 {
-    let mut buy = 0;
-    let mut sell = 0;
-    let mut i = 0;
-    while i < n {
-        let o = orders[i];
-        buy = first_due(buy, is_due(o, 0), i);
-        sell = first_due(sell, is_due(o, 1), i);
-        i += 1;
+    orders
+        .iter()
+        .position(|o| (o.side == side) & (0 < o.alloc_left))
+}
+
+fn less_left(o: &Order, qty: u64) -> Order
+    requires { qty ≤ o.now.alloc_left }
+    ensures { result ≡ less_left o.now qty }
+{
+    Order {
+        alloc_left: o.alloc_left - qty,
+        ..*o
     }
-    let due = both(buy < n, sell < n);
-    Pair { due, buy, sell }
-}
-
-// The first due order of the places up to i, from that of the places before i; the number of places where there is none.
-fn first_due(found: usize, due: bool, i: usize) -> usize
-    requires { i < max_orders }
-    ensures { result ≡ (if nat_lt found i then found else if due then i else i + 1) }
-{
-    if found < i {
-        return found;
-    }
-    if due {
-        return i;
-    }
-    i + 1
-}
-
-// On that side, with something of its lot left.
-fn is_due(o: Order, side: u8) -> bool
-    ensures { result ≡ due_on side o }
-{
-    both(o.side == side, 0 < o.alloc_left)
-}
-
-fn smaller(a: u64, b: u64) -> u64
-    ensures { result ≡ min a b }
-{
-    if a <= b { a } else { b }
-}
-
-fn less_left(o: Order, qty: u64) -> Order
-    requires { qty ≤ o.alloc_left }
-    ensures { result ≡ less_left o qty }
-{
-    let mut less = o;
-    less.alloc_left = o.alloc_left - qty;
-    less
 }
 
 // Neither settled nor bought by the issuer: those come later.
-fn fill_of(buy: Order, sell: Order, qty: u64) -> Fill
-    ensures { result ≡ fill_of buy sell qty }
+fn fill_of(buy: &Order, sell: &Order, qty: u64) -> Fill
+    ensures { result ≡ fill_of buy.now sell.now qty }
 {
-    let buyer = buy.owner;
-    let seller = sell.owner;
     Fill {
-        buyer,
-        seller,
+        buyer: buy.owner,
+        seller: sell.owner,
         qty,
         rofr: false,
         settled: false,
@@ -213,19 +181,4 @@ fn fill_line(at: usize, b: usize, a: usize, qty: u64) -> Line
         qty,
     };
     Line { event }
-}
-
-fn none_left(orders: [Order; Session::MAX_ORDERS], n: usize) -> bool
-    requires { n ≤ max_orders }
-    ensures { result ≡ every (λ i. (order_in orders i).alloc_left == 0) n }
-{
-    let mut i = 0;
-    while i < n {
-        let o = orders[i];
-        if o.alloc_left != 0 {
-            return false;
-        }
-        i += 1;
-    }
-    true
 }

@@ -1,145 +1,128 @@
 // The rows `SH`, `SI` and `OR`: what opens a session.
-ghost use Rattle.std.specs.Prelude.{◌≡◌, true, false, if◌then◌else◌, not, ◌&&◌, ◌||◌, ◌+◌, ◌<◌, ◌≤◌, nat_lt, nat_le, ◌==◌, pos, ◌+ℤ◌};
+ghost use Rattle.std.specs.Prelude.{◌≡◌, if◌then◌else◌, not, ◌&&◌, ◌||◌, nat_lt, nat_le, ◌==◌, pos, ◌+ℤ◌};
 ghost use Rattle.std.specs.Int.Signed.{lt_z, le_z};
-ghost use Rattle.laws.specs.Search.{some};
+ghost use Rattle.std.specs.List.{list_any};
+ghost use Rattle.refusals.specs.Number.{refusal_in};
 ghost use Rattle.laws.specs.Lists.{same};
 ghost use Rattle.laws.specs.Checks.{unless, ◌then◌};
 ghost use Rattle.clock.specs.Clock.{sum_fits};
-ghost use Rattle.credit_math.specs.Limits.{max_orders};
-ghost use Rattle.book.specs.Book.{order_in, no_wallet};
+ghost use Rattle.book.specs.Book.{no_wallet};
 ghost use Rattle.auction_engine.specs.Opening.{header_refusal, row_refusal, order_refusal};
 ghost use Rattle.auction_engine.specs.Changes.{order_change};
 
 use crate::Session;
 use crate::changes::Change;
+use crate::first_checks::check;
 use book::{Given, Order, Params, Row};
-use escrow::Cover;
 use events::{Event, EventPair};
-use laws::checks::{both, either, first_of, unless};
+use refusals::Refusal;
 
 // 4 a field outside its values; 5 an invalid schedule; 6 no cash cap.
-pub fn header_refusal(p: Params, g: Given, cover: Cover) -> u8
-    ensures { result ≡ header_refusal p g cover }
+#[tactic(auto, using(crate::proofs::Steps::steps), unfolding(crate::specs::Opening::header_refusal))]
+pub fn header_refusal(p: &Params, g: &Given, cover: Option<u8>) -> Result<(), Refusal>
+    ensures { refusal_in result ≡ header_refusal p.now g.now cover }
 {
-    let reserve = unless(!both(p.forced, 0 < g.reserve), refusals::BAD_FIELD);
-    let policy = unless(g.policy <= 3, refusals::BAD_FIELD);
-    let band = unless(g.band_bps <= disclosure::MAX_BAND, refusals::BAD_FIELD);
-    let decimals = escrow::decimals_refusal(cover);
-    let fields = first_of(band, first_of(decimals, schedule_refusal(p)));
-    first_of(reserve, first_of(policy, fields))
+    check(Refusal::BadField, !(p.forced & (0 < g.reserve)))?;
+    check(Refusal::BadField, g.policy <= 3)?;
+    check(Refusal::BadField, g.band_bps <= disclosure::MAX_BAND)?;
+    escrow::decimals_refusal(cover)?;
+    schedule_refusal(p)
 }
 
-fn schedule_refusal(p: Params) -> u8
-    ensures { result ≡ unless (lt_z p.reveal_end p.settle_deadline) 5
-        then unless (le_z (pos 0) p.rofr_window) 5
-        then unless (not (same p.rofr_authority no_wallet) || le_z p.rofr_window (pos 0)) 5
-        then unless (sum_fits p.reveal_end p.rofr_window) 5
-        then unless (lt_z (p.reveal_end +ℤ p.rofr_window) p.settle_deadline) 5
-        then unless (nat_le 2 p.min_reveals) 5
-        then unless (nat_lt 0 p.max_cash) 6 }
+#[tactic(auto, using(crate::proofs::Steps::steps))]
+fn schedule_refusal(p: &Params) -> Result<(), Refusal>
+    ensures { refusal_in result ≡ unless (lt_z p.now.reveal_end p.now.settle_deadline) 5
+        then unless (le_z (pos 0) p.now.rofr_window) 5
+        then unless (not (same p.now.rofr_authority no_wallet) || le_z p.now.rofr_window (pos 0)) 5
+        then unless (sum_fits p.now.reveal_end p.now.rofr_window) 5
+        then unless (lt_z (p.now.reveal_end +ℤ p.now.rofr_window) p.now.settle_deadline) 5
+        then unless (nat_le 2 p.now.min_reveals) 5
+        then unless (nat_lt 0 p.now.max_cash) 6 }
 {
-    let authority = p.rofr_authority;
-    let none = book::same_key(authority, [0; 32]);
-    let times = unless(
-        clock::before(p.reveal_end, p.settle_deadline),
-        refusals::INVALID_SCHEDULE,
-    );
-    let window = unless(
-        clock::not_before(p.rofr_window, 0),
-        refusals::INVALID_SCHEDULE,
-    );
-    let owner = unless(
-        either(!none, clock::not_before(0, p.rofr_window)),
-        refusals::INVALID_SCHEDULE,
-    );
-    first_of(times, first_of(window, first_of(owner, end_refusal(p))))
+    check(Refusal::InvalidSchedule, p.reveal_end < p.settle_deadline)?;
+    check(Refusal::InvalidSchedule, 0 <= p.rofr_window)?;
+    check(Refusal::InvalidSchedule, window_has_holder(p))?;
+    window_end_refusal(p)
 }
 
-// The end of the issuer's window fits and is before the deadline; two reveals at least; then the cash cap.
-fn end_refusal(p: Params) -> u8
-    ensures { result ≡ unless (sum_fits p.reveal_end p.rofr_window) 5
-        then unless (lt_z (p.reveal_end +ℤ p.rofr_window) p.settle_deadline) 5
-        then unless (nat_le 2 p.min_reveals) 5
-        then unless (nat_lt 0 p.max_cash) 6 }
+// 5: the window's end no time or not before the deadline, or too few reveals; 6 no cash cap.
+#[tactic(auto, using(crate::proofs::Steps::steps))]
+fn window_end_refusal(p: &Params) -> Result<(), Refusal>
+    ensures { refusal_in result ≡ unless (sum_fits p.now.reveal_end p.now.rofr_window) 5
+        then unless (lt_z (p.now.reveal_end +ℤ p.now.rofr_window) p.now.settle_deadline) 5
+        then unless (nat_le 2 p.now.min_reveals) 5
+        then unless (nat_lt 0 p.now.max_cash) 6 }
 {
-    let fits = unless(
+    check(
+        Refusal::InvalidSchedule,
         clock::sum_fits(p.reveal_end, p.rofr_window),
-        refusals::INVALID_SCHEDULE,
-    );
+    )?;
     let end = clock::sum_before(p.reveal_end, p.rofr_window, p.settle_deadline);
-    let below = unless(end, refusals::INVALID_SCHEDULE);
-    let reveals = unless(2 <= p.min_reveals, refusals::INVALID_SCHEDULE);
-    let cash = unless(0 < p.max_cash, refusals::ZERO_FIGURE);
-    first_of(fits, first_of(below, first_of(reveals, cash)))
+    check(Refusal::InvalidSchedule, end)?;
+    check(Refusal::InvalidSchedule, 2 <= p.min_reveals)?;
+    check(Refusal::ZeroFigure, 0 < p.max_cash)
+}
+
+// Without an authority there is no window.
+fn window_has_holder(p: &Params) -> bool
+    ensures { result ≡ not (same p.now.rofr_authority no_wallet) || le_z p.now.rofr_window (pos 0) }
+{
+    let none = p.rofr_authority == [0; 32];
+    !none | (p.rofr_window <= 0)
 }
 
 // What refuses the row by itself; 7 seventeenth; 8 owner seen.
-pub fn order_refusal(s: &Session, cover: Cover, row: Row) -> u8
-    ensures { result ≡ order_refusal s.now cover row }
+#[tactic(auto, using(crate::proofs::Steps::steps), unfolding(crate::specs::Opening::order_refusal))]
+pub fn order_refusal(s: &Session, cover: Option<u8>, row: &Row) -> Result<(), Refusal>
+    ensures { refusal_in result ≡ order_refusal s.now cover row.now }
 {
-    let full = unless(s.order_count < Session::MAX_ORDERS, refusals::ORDERS_FULL);
-    let refusal = first_of(row_refusal(cover, row), full);
-    if refusal != 0 {
-        return refusal;
-    }
-    let orders = s.orders;
-    let owner = row.owner;
-    unless(
-        !owner_seen(orders, s.order_count, owner),
-        refusals::DUPLICATE_ORDER,
+    row_refusal(cover, row)?;
+    check(Refusal::OrdersFull, s.order_count < Session::MAX_ORDERS)?;
+    check(
+        Refusal::DuplicateOrder,
+        !seen(&s.orders[..s.order_count], &row.owner),
     )
 }
 
-// 4 side; 6 escrow 0, revealed with limit or qty 0, unrevealed with either not 0; 31 uncovered.
-pub fn row_refusal(cover: Cover, row: Row) -> u8
-    ensures { result ≡ row_refusal cover row }
+fn seen(orders: &[Order], owner: &[u8; 32]) -> bool
+    ensures { result ≡ list_any (λ o. same o.owner owner.now) orders.now }
 {
-    let side = unless(row.side <= 1, refusals::BAD_FIELD);
-    let nothing = unless(0 < row.escrowed, refusals::ZERO_FIGURE);
-    let figures = unless(shows_right(row), refusals::ZERO_FIGURE);
-    let uncovered = escrow::cover_refusal(cover, row);
-    first_of(side, first_of(nothing, first_of(figures, uncovered)))
+    orders.iter().any(|o| o.owner == *owner)
+}
+
+// 4 side; 6 escrow 0, revealed with limit or qty 0, unrevealed with either not 0; 31 uncovered.
+#[tactic(auto, unfolding(laws::specs::Checks::unless, laws::specs::Checks::first_of, crate::specs::Opening::row_refusal))]
+pub fn row_refusal(cover: Option<u8>, row: &Row) -> Result<(), Refusal>
+    ensures { refusal_in result ≡ row_refusal cover row.now }
+{
+    check(Refusal::BadField, row.side <= 1)?;
+    check(Refusal::ZeroFigure, 0 < row.escrowed)?;
+    check(Refusal::ZeroFigure, shows_right(row))?;
+    escrow::cover_refusal(cover, row)
 }
 
 // Revealed with both figures, or unrevealed with none.
-fn shows_right(row: Row) -> bool
-    ensures { result ≡ (if row.revealed then nat_lt 0 row.limit && nat_lt 0 row.qty else row.limit == 0 && row.qty == 0) }
+fn shows_right(row: &Row) -> bool
+    ensures { result ≡ (if row.now.revealed then nat_lt 0 row.now.limit && nat_lt 0 row.now.qty else row.now.limit == 0 && row.now.qty == 0) }
 {
     if row.revealed {
-        return both(0 < row.limit, 0 < row.qty);
+        (0 < row.limit) & (0 < row.qty)
+    } else {
+        (row.limit == 0) & (row.qty == 0)
     }
-    both(row.limit == 0, row.qty == 0)
-}
-
-fn owner_seen(orders: [Order; Session::MAX_ORDERS], n: usize, owner: [u8; 32]) -> bool
-    requires { n ≤ max_orders }
-    ensures { result ≡ some (λ i. same (order_in orders i).owner owner) n }
-{
-    let mut i = 0;
-    while i < n {
-        let o = orders[i];
-        let seen = o.owner;
-        if book::same_key(seen, owner) {
-            return true;
-        }
-        i += 1;
-    }
-    false
 }
 
 // What one order more changes, or the number that refuses it.
-pub(crate) fn order_change(s: &Session, cover: Cover, row: Row) -> Change
-    ensures { result ≡ order_change s.now cover row }
+pub(crate) fn order_change(s: &Session, cover: Option<u8>, row: &Row) -> Change
+    ensures { result ≡ order_change s.now cover row.now }
 {
-    let refusal = order_refusal(s, cover, row);
-    let mut c = s.unchanged(refusal);
-    if refusal != 0 {
-        return c;
+    if let Err(refusal) = order_refusal(s, cover, row) {
+        return s.unchanged(refusal);
     }
     let at = s.order_count;
+    let mut c = s.keeping(EventPair::one(Event::Ordered(at as u64)));
     c.order_at = at;
-    c.order = Order::listed(row);
+    c.order = Order::from(*row);
     c.order_count = at + 1;
-    c.events = EventPair::one(Event::Ordered(at as u64));
     c
 }

@@ -1,7 +1,7 @@
 // The calls `exercise_rofr` and `close_rofr`: the issuer's right of first refusal.
-ghost use Rattle.std.specs.Prelude.{◌≡◌, true, not, ◌+◌, ◌-◌, ◌^◌, ◌<◌, ◌≤◌, min, nat_lt, nat_le};
+ghost use Rattle.std.specs.Prelude.{◌≡◌, not, ◌<◌, ◌≤◌, nat_lt, nat_le, OnOk};
 ghost use Rattle.std.specs.Int.Signed.{lt_z};
-ghost use Rattle.laws.specs.Lists.{same};
+ghost use Rattle.refusals.specs.Number.{refusal_in};
 ghost use Rattle.laws.specs.Checks.{unless, ◌then◌};
 ghost use Rattle.book.specs.Limits.{max_fills};
 ghost use Rattle.auction_engine.specs.Session.{fill_at, rofr_end};
@@ -11,180 +11,147 @@ ghost use Rattle.auction_engine.specs.Engine.{refusal, answer};
 ghost use Rattle.auction_engine.specs.Changes.{change_of};
 
 use crate::changes::Change;
-use crate::{Answer, Session};
+use crate::{Answer, Kind, Phase, Session};
 use book::Fill;
 use events::{Event, EventPair, Events};
-use laws::checks::{both, either, first_of, unless};
+use refusals::Refusal;
 
 impl Session {
     // The issuer takes `qty` of a fill at the clearing price, settled at once.
+    #[tactic(auto, using(events::proofs::Packed::push_first), unfolding(crate::specs::Engine::effect, crate::specs::Engine::events, crate::specs::Engine::answer, crate::specs::Rofr::exercise_events))]
     pub fn exercise_rofr(self, now: i64, issuer: [u8; 32], fill: u32, qty: u64) -> Answer
         ensures { result ≡ answer self (call.exercise now issuer fill qty) }
     {
-        let refusal = self.exercise_refusal(now, issuer, fill, qty);
-        if refusal != 0 {
+        let at = fill as usize;
+        if let Err(refusal) = self.exercise_refusal(now, &issuer, at, qty) {
             return Answer::refused(self, refusal);
         }
-        let at = fill as usize;
-        let new = self.fill_count;
-        let none = Events::none();
-        let events = none.push(Event::RofrExercised {
+        let bought = Event::RofrExercised {
             fill,
-            new: new as u32,
+            new: self.fill_count as u32,
             qty,
             price: self.cleared.clear_price,
-        });
-        let session = self.with_purchase(issuer, at, qty);
+        };
         Answer {
             refusal: 0,
-            session,
-            events,
+            session: self.with_purchase(issuer, at, qty),
+            events: Events::none().push(bought),
         }
     }
 
     // Refused for sure by its phase or its window; else undecided.
-    pub(crate) fn exercise_change(&self, now: i64, issuer: [u8; 32], fill: u32, qty: u64) -> Change
-        ensures { result ≡ change_of self.now (call.exercise now issuer fill qty) }
+    #[tactic(auto, using(crate::proofs::Changing::undecided_change, crate::proofs::Changing::sure_change), unfolding(crate::specs::Changes::change_of))]
+    pub(crate) fn exercise_change(&self, now: i64, issuer: &[u8; 32], fill: u32, qty: u64) -> Change
+        ensures { result ≡ change_of self.now (call.exercise now issuer.now fill qty) }
     {
-        if both(
-            crate::admits(self.phase, crate::EXERCISE),
-            self.before_rofr_end(now),
-        ) {
-            return self.early(0);
+        if crate::admits(self.phase, Kind::Exercise) & self.before_rofr_end(now) {
+            return self.early(Ok(()));
         }
-        self.early(self.exercise_refusal(now, issuer, fill, qty))
+        self.early(self.exercise_refusal(now, issuer, fill as usize, qty))
     }
 
-    fn exercise_refusal(&self, now: i64, issuer: [u8; 32], fill: u32, qty: u64) -> u8
-        ensures { result ≡ refusal self.now (call.exercise now issuer fill qty) }
+    #[tactic(auto, unfolding(laws::specs::Checks::unless, laws::specs::Checks::first_of, crate::specs::Engine::refusal, crate::specs::Engine::own_refusal, crate::specs::Call::arguments_refusal, crate::specs::Rofr::exercise_refusal))]
+    fn exercise_refusal(
+        &self,
+        now: i64,
+        issuer: &[u8; 32],
+        at: usize,
+        qty: u64,
+    ) -> Result<(), Refusal>
+        ensures refusal { refusal_in result ≡ refusal self.now (call.exercise now issuer.now at qty) }
+        ensures place { OnOk result ((at < max_fills) × (self.now.fill_count < max_fills) × (qty ≤ (fill_at self.now at).qty)) }
     {
-        let bad = self.checked();
-        if bad != 0 {
-            return bad;
-        }
-        let phase = unless(
-            crate::admits(self.phase, crate::EXERCISE),
-            refusals::WRONG_PHASE,
-        );
-        let window = unless(self.before_rofr_end(now), refusals::OUTSIDE_WINDOW);
-        let issuers = unless(self.is_authority(issuer), refusals::NOT_ROFR_AUTHORITY);
-        let nothing = unless(0 < qty, refusals::ZERO_PURCHASE);
-        let full = unless(self.fill_count < Session::MAX_FILLS, refusals::FILLS_FULL);
-        let no_fill = self.take_refusal(fill as usize, qty);
-        first_of(
-            phase,
-            first_of(
-                window,
-                first_of(issuers, first_of(nothing, first_of(full, no_fill))),
-            ),
-        )
+        self.checked()?;
+        Refusal::WrongPhase.unless(crate::admits(self.phase, Kind::Exercise))?;
+        Refusal::OutsideWindow.unless(self.before_rofr_end(now))?;
+        Refusal::NotRofrAuthority.unless(*issuer == self.params.rofr_authority)?;
+        Refusal::ZeroPurchase.unless(0 < qty)?;
+        Refusal::FillsFull.unless(self.fill_count < Session::MAX_FILLS)?;
+        self.take_refusal(at, qty)
     }
 
     // 21 no fill, or already rofr or settled; 22 qty above the fill.
-    fn take_refusal(&self, at: usize, qty: u64) -> u8
+    #[tactic(auto, unfolding(laws::specs::Checks::unless, laws::specs::Checks::first_of))]
+    fn take_refusal(&self, at: usize, qty: u64) -> Result<(), Refusal>
         requires { self.now.fill_count ≤ max_fills }
-        ensures { result ≡ unless (nat_lt at self.now.fill_count) 21
+        ensures refusal { refusal_in result ≡ unless (nat_lt at self.now.fill_count) 21
             then unless (not (fill_at self.now at).rofr) 21
             then unless (not (fill_at self.now at).settled) 21
             then unless (nat_le qty (fill_at self.now at).qty) 22 }
+        ensures place { OnOk result ((at < self.now.fill_count) × (qty ≤ (fill_at self.now at).qty)) }
     {
-        if self.fill_count <= at {
-            return refusals::NO_FILL;
-        }
-        let fills = self.fills;
-        let f = fills[at];
-        let bought = unless(!f.rofr, refusals::NO_FILL);
-        let settled = unless(!f.settled, refusals::NO_FILL);
-        let above = unless(qty <= f.qty, refusals::ROFR_EXCEEDS_FILL);
-        first_of(bought, first_of(settled, above))
+        Refusal::NoFill.unless(at < self.fill_count)?;
+        let f = &self.fills[at];
+        Refusal::NoFill.unless(!f.rofr)?;
+        Refusal::NoFill.unless(!f.settled)?;
+        Refusal::RofrExceedsFill.unless(qty <= f.qty)
     }
 
     // The fill is split: the issuer has qty of it, in a fill of its own.
+    #[tactic(auto, unfolding(crate::specs::Rofr::exercise_effect))]
     fn with_purchase(self, issuer: [u8; 32], at: usize, qty: u64) -> Session
         requires { (at < max_fills) × (self.fill_count < max_fills) × (qty ≤ (fill_at self at).qty) }
         ensures { result ≡ exercise_effect self issuer at qty }
     {
-        let mut fills = self.fills;
-        let f = fills[at];
+        let mut session = self;
+        let f = self.fills[at];
         let seller = f.seller;
-        let mut less = f;
-        less.qty = f.qty - qty;
         let new = self.fill_count;
-        let purchase = Fill {
+        session.fills[at] = Fill {
+            qty: f.qty - qty,
+            ..f
+        };
+        session.fills[new] = Fill {
             buyer: issuer,
             seller,
             qty,
             rofr: true,
             settled: true,
         };
-        fills[at] = less;
-        fills[new] = purchase;
-        let mut next = self;
-        next.fills = fills;
-        next.fill_count = new + 1;
-        next.rofr_qty = saturating_add(self.rofr_qty, qty);
-        next
+        session.fill_count = new + 1;
+        session.rofr_qty = self.rofr_qty.saturating_add(qty);
+        session
     }
 
     // Before the end of the issuer's window.
+    #[tactic(auto, unfolding(crate::specs::Session::rofr_end))]
     fn before_rofr_end(&self, now: i64) -> bool
         ensures { result ≡ lt_z now (rofr_end self.now) }
     {
-        let p = self.params;
-        clock::before_sum(now, p.reveal_end, p.rofr_window)
-    }
-
-    fn is_authority(&self, who: [u8; 32]) -> bool
-        ensures { result ≡ same who self.now.params.rofr_authority }
-    {
-        let p = self.params;
-        let authority = p.rofr_authority;
-        book::same_key(who, authority)
+        clock::before_sum(now, self.params.reveal_end, self.params.rofr_window)
     }
 
     // Ends the issuer's window: by the authority, or by anybody once it has passed.
+    #[tactic(auto, using(crate::proofs::Changing::made_close))]
     pub fn close_rofr(self, now: i64, caller: [u8; 32]) -> Answer
         ensures { result ≡ answer self (call.close now caller) }
     {
-        let c = self.close_change(now, caller);
+        let c = self.close_change(now, &caller);
         self.made(c)
     }
 
-    pub(crate) fn close_change(&self, now: i64, caller: [u8; 32]) -> Change
-        ensures { result ≡ change_of self.now (call.close now caller) }
+    #[tactic(auto, unfolding(crate::specs::Changes::change_of, crate::specs::Engine::effect, crate::specs::Engine::events, crate::specs::Rofr::close_effect, crate::specs::Rofr::close_events))]
+    pub(crate) fn close_change(&self, now: i64, caller: &[u8; 32]) -> Change
+        ensures { result ≡ change_of self.now (call.close now caller.now) }
     {
-        let refusal = self.close_refusal(now, caller);
-        if refusal != 0 {
+        if let Err(refusal) = self.close_refusal(now, caller) {
             return self.unchanged(refusal);
         }
         let closed = Event::RofrClosed(self.rofr_qty);
         let moved = Event::PhaseChanged {
             from: self.phase,
-            to: crate::SETTLING,
+            to: Phase::Settling as u8,
         };
-        self.phase_change(crate::SETTLING, EventPair::two(closed, moved))
+        self.phase_change(Phase::Settling, EventPair::two(closed, moved))
     }
 
-    fn close_refusal(&self, now: i64, caller: [u8; 32]) -> u8
-        ensures { result ≡ refusal self.now (call.close now caller) }
+    #[tactic(auto, unfolding(laws::specs::Checks::unless, laws::specs::Checks::first_of, crate::specs::Engine::refusal, crate::specs::Engine::own_refusal, crate::specs::Call::arguments_refusal, crate::specs::Rofr::close_refusal))]
+    fn close_refusal(&self, now: i64, caller: &[u8; 32]) -> Result<(), Refusal>
+        ensures { refusal_in result ≡ refusal self.now (call.close now caller.now) }
     {
-        let bad = self.checked();
-        if bad != 0 {
-            return bad;
-        }
-        let phase = unless(
-            crate::admits(self.phase, crate::CLOSE),
-            refusals::WRONG_PHASE,
-        );
+        self.checked()?;
+        Refusal::WrongPhase.unless(crate::admits(self.phase, Kind::Close))?;
         let ended = !self.before_rofr_end(now);
-        let allowed = either(self.is_authority(caller), ended);
-        first_of(phase, unless(allowed, refusals::NOT_ROFR_AUTHORITY))
+        Refusal::NotRofrAuthority.unless((*caller == self.params.rofr_authority) | ended)
     }
-}
-
-// The sum, or the largest 64-bit number.
-fn saturating_add(a: u64, b: u64) -> u64
-    ensures { result ≡ min (a + b) (2 ^ 64 - 1) }
-{
-    if b <= u64::MAX - a { a + b } else { u64::MAX }
 }

@@ -1,22 +1,23 @@
 // The call `screen`: one order against its gate verdict and its investor's other orders.
-ghost use Rattle.std.specs.Prelude.{◌≡◌, true, not, ◌&&◌, ◌||◌, ◌<◌, ◌≤◌, nat_lt, nat_le, ◌==◌};
+ghost use Rattle.std.specs.Prelude.{◌≡◌, not, ◌&&◌, ◌||◌, ◌<◌, nat_le, ◌==◌, OnOk};
+ghost use Rattle.refusals.specs.Number.{refusal_in};
 ghost use Rattle.laws.specs.Lists.{same};
 ghost use Rattle.laws.specs.Checks.{unless, ◌then◌};
 ghost use Rattle.credit_math.specs.Limits.{max_orders};
 ghost use Rattle.book.specs.Book.{no_investor};
 ghost use Rattle.events.specs.Events.{event_pair};
-ghost use Rattle.auction_engine.specs.Session.{order_at};
 ghost use Rattle.auction_engine.specs.Screening.{exclusion_of, screened_as, screen_lines};
-ghost use Rattle.auction_engine.specs.Engine.{answer};
-ghost use Rattle.auction_engine.specs.Changes.{place_of, change_of};
+ghost use Rattle.auction_engine.specs.Engine.{refusal, answer};
+ghost use Rattle.auction_engine.specs.Changes.{change_of};
 ghost use Rattle.auction_engine.specs.Call as call;
-ghost use Rattle.auction_engine.specs.Call.{screen_kind, admits, in_window};
 
 use crate::changes::Change;
-use crate::{Answer, Session};
+use crate::first_checks::check;
+use crate::{Answer, Kind, Phase, Session};
 use book::Order;
 use events::{Event, EventPair};
-use laws::checks::{both, either, first_of, unless};
+use investors::exclusion::investor_exclusion;
+use refusals::Refusal;
 
 impl Session {
     // An order's gate verdict, and the id of its investor where one is given.
@@ -31,7 +32,7 @@ impl Session {
     ) -> Answer
         ensures { result ≡ answer self (call.screen now order side verdict has_id id) }
     {
-        let c = self.screen_change(now, order, side, verdict, has_id, id);
+        let c = self.screen_change(now, order, side, verdict, has_id, &id);
         self.made(c)
     }
 
@@ -42,123 +43,89 @@ impl Session {
         side: u8,
         verdict: u8,
         has_id: bool,
-        id: [u8; 16],
+        id: &[u8; 16],
     ) -> Change
-        ensures { result ≡ change_of self.now (call.screen now order side verdict has_id id) }
+        ensures { result ≡ change_of self.now (call.screen now order side verdict has_id id.now) }
     {
-        let argument = arguments_refusal(side, verdict, has_id, id);
-        let early = first_of(
-            self.checked(),
-            first_of(argument, self.screening_refusal(now)),
-        );
-        if early != 0 {
-            return self.unchanged(early);
-        }
         let i = order as usize;
-        let o = self.order_at(i);
-        let refusal = self.order_refusal(i, side, o);
-        if refusal != 0 {
+        if let Err(refusal) = self.screen_refusal(now, i, side, verdict, has_id, id) {
             return self.unchanged(refusal);
         }
         let exclusion = self.exclusion_of(i, verdict, has_id, id);
         let mut c = self.keeping(screen_events(self.phase, order, exclusion));
-        c.phase = crate::CLEARING;
+        c.phase = Phase::Clearing as u8;
         c.order_at = i;
-        c.order = as_screened(o, exclusion, has_id, id);
+        c.order = as_screened(&self.orders[i], exclusion, has_id, id);
         c
     }
 
-    // The order at a place; the first, where the array has no such place.
-    fn order_at(&self, i: usize) -> Order
-        ensures { result ≡ order_at self.now (place_of max_orders i) }
+    // What any call checks, a session before its arguments, and then the screen's own row.
+    #[tactic(auto, using(crate::proofs::Steps::stages), unfolding(crate::specs::Engine::own_refusal, crate::specs::Call::arguments_refusal, crate::specs::Screening::screen_refusal))]
+    fn screen_refusal(
+        &self,
+        now: i64,
+        i: usize,
+        side: u8,
+        verdict: u8,
+        has_id: bool,
+        id: &[u8; 16],
+    ) -> Result<(), Refusal>
+        ensures refusal { refusal_in result ≡ refusal self.now (call.screen now i side verdict has_id id.now) }
+        ensures place { OnOk result (i < max_orders) }
     {
-        let orders = self.orders;
-        if i < Session::MAX_ORDERS {
-            return orders[i];
-        }
-        orders[0]
-    }
-
-    // 11 outside the window; 10 the phase.
-    fn screening_refusal(&self, now: i64) -> u8
-        ensures { result ≡ unless (in_window self.now now) 11 then unless (admits self.now.phase screen_kind) 10 }
-    {
-        let window = unless(self.in_window(now), refusals::OUTSIDE_WINDOW);
-        let phase = unless(
-            crate::admits(self.phase, crate::SCREEN),
-            refusals::WRONG_PHASE,
-        );
-        first_of(window, phase)
-    }
-
-    // 12 no such order; 13 side; 14 not revealed; 15 screened.
-    fn order_refusal(&self, i: usize, side: u8, o: Order) -> u8
-        requires { (self.now.order_count ≤ max_orders) × (i < max_orders → o ≡ order_at self.now i) }
-        ensures { result ≡ unless (nat_lt i self.now.order_count) 12
-            then unless ((order_at self.now i).side == side) 13
-            then unless (order_at self.now i).revealed 14
-            then unless (not (order_at self.now i).screened) 15 }
-    {
-        if self.order_count <= i {
-            return refusals::NO_ORDER;
-        }
-        let other = unless(o.side == side, refusals::WRONG_SIDE);
-        let hidden = unless(o.revealed, refusals::NOT_REVEALED);
-        let again = unless(!o.screened, refusals::ALREADY_SCREENED);
-        first_of(other, first_of(hidden, again))
+        self.checked()?;
+        arguments_refusal(side, verdict, has_id, id)?;
+        check(Refusal::OutsideWindow, self.in_window(now))?;
+        check(Refusal::WrongPhase, crate::admits(self.phase, Kind::Screen))?;
+        check(Refusal::NoOrder, i < self.order_count)?;
+        let o = &self.orders[i];
+        check(Refusal::WrongSide, o.side == side)?;
+        check(Refusal::NotRevealed, o.revealed)?;
+        check(Refusal::AlreadyScreened, !o.screened)
     }
 
     // A verdict other than 0 is the exclusion; with verdict 0 and an id, the investor's other orders decide.
-    fn exclusion_of(&self, i: usize, verdict: u8, has_id: bool, id: [u8; 16]) -> u8
-        ensures { result ≡ exclusion_of self.now i verdict has_id id }
+    #[tactic(auto, unfolding(crate::specs::Screening::exclusion_of))]
+    fn exclusion_of(&self, i: usize, verdict: u8, has_id: bool, id: &[u8; 16]) -> u8
+        ensures { result ≡ exclusion_of self.now i verdict has_id id.now }
     {
         if verdict != 0 {
             return verdict;
         }
-        if has_id {
-            let p = self.params;
-            let orders = self.orders;
-            return investors::exclusion::investor_exclusion(
-                orders,
-                self.order_count,
-                i,
-                id,
-                p.max_cash,
-            );
+        if !has_id {
+            return 0;
         }
-        0
+        let found = investor_exclusion(&self.orders, self.order_count, i, id, self.params.max_cash);
+        match found {
+            Some(exclusion) => exclusion as u8,
+            None => 0,
+        }
     }
 }
 
 // 4: a side or a verdict outside its values; without an id it is zeros; a passed buy has an id.
-pub fn arguments_refusal(side: u8, verdict: u8, has_id: bool, id: [u8; 16]) -> u8
-    ensures { result ≡ unless (nat_le side 1) 4
+#[tactic(auto, using(crate::proofs::Steps::steps))]
+pub fn arguments_refusal(side: u8, verdict: u8, has_id: bool, id: &[u8; 16]) -> Result<(), Refusal>
+    ensures { refusal_in result ≡ unless (nat_le side 1) 4
         then unless (nat_le verdict 6) 4
-        then unless (has_id || same id no_investor) 4
+        then unless (has_id || same id.now no_investor) 4
         then unless (has_id || not (side == 0 && verdict == 0)) 4 }
 {
-    let sides = unless(side <= 1, refusals::BAD_FIELD);
-    let verdicts = unless(verdict <= 6, refusals::BAD_FIELD);
-    let zeros = unless(
-        either(has_id, book::same_id(id, [0; 16])),
-        refusals::BAD_FIELD,
-    );
-    let passed_buy = both(side == 0, verdict == 0);
-    let given = unless(either(has_id, !passed_buy), refusals::BAD_FIELD);
-    first_of(sides, first_of(verdicts, first_of(zeros, given)))
+    check(Refusal::BadField, side <= 1)?;
+    check(Refusal::BadField, verdict <= 6)?;
+    check(Refusal::BadField, has_id | (*id == [0; 16]))?;
+    check(Refusal::BadField, has_id | !((side == 0) & (verdict == 0)))
 }
 
-fn as_screened(o: Order, exclusion: u8, has_id: bool, id: [u8; 16]) -> Order
-    ensures { result ≡ screened_as o exclusion has_id id }
+fn as_screened(o: &Order, exclusion: u8, has_id: bool, id: &[u8; 16]) -> Order
+    ensures { result ≡ screened_as o.now exclusion has_id id.now }
 {
-    let mut screened = o;
-    screened.screened = true;
-    screened.eligible = exclusion == 0;
-    if has_id {
-        screened.investor_id = id;
-        return screened;
+    Order {
+        screened: true,
+        eligible: exclusion == 0,
+        investor_id: if has_id { *id } else { o.investor_id },
+        ..*o
     }
-    screened
 }
 
 // The change of phase on the first screen, then the screen.
@@ -166,12 +133,12 @@ fn screen_events(from: u8, order: u8, exclusion: u8) -> EventPair
     ensures { result ≡ event_pair (screen_lines from order exclusion) }
 {
     let screened = Event::OrderScreened { order, exclusion };
-    if from == crate::CLEARING {
+    if from == Phase::Clearing as u8 {
         return EventPair::one(screened);
     }
     let moved = Event::PhaseChanged {
         from,
-        to: crate::CLEARING,
+        to: Phase::Clearing as u8,
     };
     EventPair::two(moved, screened)
 }

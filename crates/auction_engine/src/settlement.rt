@@ -1,32 +1,33 @@
 // The calls `settle`, `skip_fill`, `finish` and `expire`. Cash and notes move on the chain.
-ghost use Rattle.std.specs.Prelude.{◌≡◌, true, false, if◌then◌else◌, not, [], ◌∷◌, ◌+◌, ◌-◌, ◌^◌, ◌<◌, ◌≤◌, min, nat_lt, ◌==◌};
+ghost use Rattle.std.specs.Prelude.{◌≡◌, false, if◌then◌else◌, not, [], ◌∷◌, ◌<◌, ◌≤◌, nat_lt, ◌==◌, OnOk, IfOk, length};
+ghost use Rattle.std.specs.List.{list_all};
+ghost use Rattle.refusals.specs.Number.{refusal_in};
 ghost use Rattle.laws.specs.Sums.{sum_below, only};
-ghost use Rattle.wide.specs.Value.{value};
-ghost use Rattle.laws.specs.Search.{every};
 ghost use Rattle.laws.specs.Bits.{is_set, with_bit};
 ghost use Rattle.laws.specs.Checks.{unless, ◌then◌};
 ghost use Rattle.book.specs.Limits.{max_fills};
 ghost use Rattle.book.specs.Book.{fill_in};
-ghost use Rattle.disclosure.specs.Disclosure.{max_band};
 ghost use Rattle.events.specs.Events.{event_pair};
 ghost use Rattle.events.specs.declared.Event.TheVariants.{FillSettled};
 ghost use Rattle.auction_engine.specs.Session.{order_at, fill_at};
 ghost use Rattle.auction_engine.specs.Call as call;
-ghost use Rattle.auction_engine.specs.Settlement.{as_settled, moved_volume, print_of};
+ghost use Rattle.auction_engine.specs.Settlement.{as_settled, print_of};
 ghost use Rattle.auction_engine.specs.Engine.{refusal, answer};
-ghost use Rattle.auction_engine.specs.Changes.{place_of, writing, change_of};
+ghost use Rattle.auction_engine.specs.Changes.{writing, change_of};
 
 use crate::changes::Change;
-use crate::{Answer, Session};
+use crate::{Answer, Kind, Phase, Session};
 use book::Fill;
+use book::clear::Failure;
+use disclosure::disclose;
 use events::{Event, EventPair, Print};
-use laws::checks::{first_of, unless};
+use investors::participants::{distinct_participants, is_skipped};
+use refusals::Refusal;
 use wide::Wide;
-
-const DEADLINE: u8 = 4;
 
 impl Session {
     // A fill has moved on the chain.
+    #[tactic(auto, using(crate::proofs::Changing::made_settle))]
     pub fn settle(self, fill: u32) -> Answer
         ensures { result ≡ answer self (call.settle fill) }
     {
@@ -34,63 +35,57 @@ impl Session {
         self.made(c)
     }
 
+    #[tactic(auto, unfolding(crate::specs::Changes::change_of, crate::specs::Engine::effect, crate::specs::Engine::events, crate::specs::Settlement::settle_effect, crate::specs::Settlement::settle_events))]
     pub(crate) fn settle_change(&self, fill: u32) -> Change
         ensures { result ≡ change_of self.now (call.settle fill) }
     {
-        let phase = unless(
-            crate::admits(self.phase, crate::SETTLE),
-            refusals::WRONG_PHASE,
-        );
-        let early = first_of(self.checked(), phase);
-        if early != 0 {
-            return self.unchanged(early);
-        }
         let at = fill as usize;
-        let f = self.fill_at(at);
-        let refusal = self.fill_refusal(at, f);
-        if refusal != 0 {
+        if let Err(refusal) = self.settle_refusal(at) {
             return self.unchanged(refusal);
         }
-        let mut c = self.fill_change(at, f, settle_events(f, fill, self.cleared.clear_price));
-        c.fills_settled = saturating_next(self.fills_settled);
+        let f = &self.fills[at];
+        let mut c = self.fill_change(at, settle_events(f, fill, self.cleared.clear_price));
+        c.fills_settled = self.fills_settled.saturating_add(1);
         c
     }
 
-    // The fill at a place; the first, where the array has no such place.
-    fn fill_at(&self, at: usize) -> Fill
-        ensures { result ≡ fill_at self.now (place_of max_fills at) }
+    #[tactic(auto, unfolding(laws::specs::Checks::unless, laws::specs::Checks::first_of, crate::specs::Engine::refusal, crate::specs::Engine::own_refusal, crate::specs::Call::arguments_refusal, crate::specs::Settlement::settle_refusal))]
+    fn settle_refusal(&self, at: usize) -> Result<(), Refusal>
+        ensures refusal { refusal_in result ≡ refusal self.now (call.settle at) }
+        ensures place { OnOk result (at < max_fills) }
     {
-        let fills = self.fills;
-        if at < Session::MAX_FILLS {
-            return fills[at];
-        }
-        fills[0]
+        self.checked()?;
+        Refusal::WrongPhase.unless(crate::admits(self.phase, Kind::Settle))?;
+        self.fill_refusal(at)
     }
 
     // 21 no fill; 23 settled.
-    fn fill_refusal(&self, at: usize, f: Fill) -> u8
-        requires { (self.now.fill_count ≤ max_fills) × (at < max_fills → f ≡ fill_at self.now at) }
-        ensures { result ≡ unless (nat_lt at self.now.fill_count) 21 then unless (not (fill_at self.now at).settled) 23 }
+    #[tactic(auto, unfolding(laws::specs::Checks::unless, laws::specs::Checks::first_of))]
+    fn fill_refusal(&self, at: usize) -> Result<(), Refusal>
+        requires { self.now.fill_count ≤ max_fills }
+        ensures refusal { refusal_in result ≡ unless (nat_lt at self.now.fill_count) 21 then unless (not (fill_at self.now at).settled) 23 }
+        ensures place { OnOk result (at < max_fills) }
     {
-        if self.fill_count <= at {
-            return refusals::NO_FILL;
-        }
-        unless(!f.settled, refusals::FILL_SETTLED)
+        Refusal::NoFill.unless(at < self.fill_count)?;
+        Refusal::FillSettled.unless(!self.fills[at].settled)
     }
 
     // A fill at a place, settled.
-    fn fill_change(&self, at: usize, f: Fill, events: EventPair) -> Change
-        ensures { result ≡ writing self.now false 0 (order_at self.now 0) at (as_settled f) 0 events }
+    fn fill_change(&self, at: usize, events: EventPair) -> Change
+        requires { at < max_fills }
+        ensures { result ≡ writing self.now false 0 (order_at self.now 0) at (as_settled (fill_at self.now at)) 0 events }
     {
-        let mut settled = f;
-        settled.settled = true;
         let mut c = self.keeping(events);
         c.fill_at = at;
-        c.fill = settled;
+        c.fill = Fill {
+            settled: true,
+            ..self.fills[at]
+        };
         c
     }
 
     // A fill that fails the gate is retired: it counts as done, and nothing moves for it. The clock is not read.
+    #[tactic(auto, using(crate::proofs::Changing::made_skip))]
     pub fn skip_fill(self, now: i64, fill: u32, reason: u8) -> Answer
         ensures { result ≡ answer self (call.skip now fill reason) }
     {
@@ -98,36 +93,38 @@ impl Session {
         self.made(c)
     }
 
+    #[tactic(auto, unfolding(crate::specs::Changes::change_of, crate::specs::Engine::effect, crate::specs::Engine::events, crate::specs::Settlement::skip_effect, crate::specs::Settlement::skip_events))]
     pub(crate) fn skip_change(&self, now: i64, fill: u32, reason: u8) -> Change
         ensures { result ≡ change_of self.now (call.skip now fill reason) }
     {
-        let argument = unless(reason <= 6, refusals::BAD_FIELD);
-        let phase = unless(
-            crate::admits(self.phase, crate::SKIP),
-            refusals::WRONG_PHASE,
-        );
-        let early = first_of(self.checked(), first_of(argument, phase));
-        if early != 0 {
-            return self.unchanged(early);
-        }
         let at = fill as usize;
-        let f = self.fill_at(at);
-        let passes = unless(0 < reason, refusals::FILL_SETTLEABLE);
-        let refusal = first_of(self.fill_refusal(at, f), passes);
-        if refusal != 0 {
+        if let Err(refusal) = self.skip_refusal(now, at, reason) {
             return self.unchanged(refusal);
         }
         let skipped = Event::FillSkipped {
             fill,
-            qty: f.qty,
+            qty: self.fills[at].qty,
             reason,
         };
-        let mut c = self.fill_change(at, f, EventPair::one(skipped));
+        let mut c = self.fill_change(at, EventPair::one(skipped));
         c.skipped_fills = with_bit(self.skipped_fills, fill);
         c
     }
 
+    #[tactic(auto, unfolding(laws::specs::Checks::unless, laws::specs::Checks::first_of, crate::specs::Engine::refusal, crate::specs::Engine::own_refusal, crate::specs::Call::arguments_refusal, crate::specs::Settlement::skip_refusal))]
+    fn skip_refusal(&self, now: i64, at: usize, reason: u8) -> Result<(), Refusal>
+        ensures refusal { refusal_in result ≡ refusal self.now (call.skip now at reason) }
+        ensures place { OnOk result (at < max_fills) }
+    {
+        self.checked()?;
+        Refusal::BadField.unless(reason <= 6)?;
+        Refusal::WrongPhase.unless(crate::admits(self.phase, Kind::Skip))?;
+        self.fill_refusal(at)?;
+        Refusal::FillSettleable.unless(0 < reason)
+    }
+
     // Every fill settled or skipped: the print. The clock is not read.
+    #[tactic(auto, using(crate::proofs::Changing::made_finish))]
     pub fn finish(self, now: i64) -> Answer
         ensures { result ≡ answer self (call.finish now) }
     {
@@ -135,70 +132,55 @@ impl Session {
         self.made(c)
     }
 
+    #[tactic(auto, unfolding(crate::specs::Changes::change_of, crate::specs::Engine::effect, crate::specs::Engine::events, crate::specs::Settlement::finish_effect, crate::specs::Settlement::finish_events))]
     pub(crate) fn finish_change(&self, now: i64) -> Change
         ensures { result ≡ change_of self.now (call.finish now) }
     {
-        let refusal = self.finish_refusal(now);
-        if refusal != 0 {
-            return self.unchanged(refusal);
+        match self.print(now) {
+            Err(refusal) => self.unchanged(refusal),
+            Ok(print) => {
+                let said = Event::ClearingPrint(print);
+                let moved = Event::PhaseChanged {
+                    from: self.phase,
+                    to: Phase::Printed as u8,
+                };
+                self.phase_change(Phase::Printed, EventPair::two(said, moved))
+            }
         }
-        let print = Event::ClearingPrint(self.print_of());
-        let moved = Event::PhaseChanged {
-            from: self.phase,
-            to: crate::PRINTED,
-        };
-        self.phase_change(crate::PRINTED, EventPair::two(print, moved))
-    }
-
-    fn finish_refusal(&self, now: i64) -> u8
-        ensures { result ≡ refusal self.now (call.finish now) }
-    {
-        let phase = unless(
-            crate::admits(self.phase, crate::FINISH),
-            refusals::WRONG_PHASE,
-        );
-        let early = first_of(self.checked(), phase);
-        if early != 0 {
-            return early;
-        }
-        let fills = self.fills;
-        let pending = unless(all_settled(fills, self.fill_count), refusals::FILLS_PENDING);
-        let volume = moved_volume(fills, self.fill_count, self.skipped_fills);
-        let unfit = unless(wide::fits_word(volume), refusals::MATH_OVERFLOW);
-        first_of(pending, unfit)
     }
 
     // What the finish prints, as the policy discloses it.
-    fn print_of(&self) -> Print
-        requires { (self.now.fill_count ≤ max_fills) × (self.now.given.band_bps ≤ max_band) × (self.now.given.policy ≤ 3) × (moved_volume self.now < 2 ^ 64) }
-        ensures { result ≡ print_of self.now }
+    #[tactic(auto, using(crate::proofs::Prints::settled_every), unfolding(laws::specs::Checks::unless, laws::specs::Checks::first_of, crate::specs::Engine::refusal, crate::specs::Engine::own_refusal, crate::specs::Call::arguments_refusal, crate::specs::Settlement::finish_refusal))]
+    fn print(&self, now: i64) -> Result<Print, Refusal>
+        ensures refusal { refusal_in result ≡ refusal self.now (call.finish now) }
+        ensures print { IfOk result (λ print. print ≡ print_of self.now) }
     {
-        let p = self.params;
-        let g = self.given;
-        let orders = self.orders;
-        let fills = self.fills;
-        let m = self.fill_count;
-        let skipped = self.skipped_fills;
-        let volume = moved_volume(fills, m, skipped);
-        let count = investors::participants::distinct_participants(
-            orders,
+        self.checked()?;
+        Refusal::WrongPhase.unless(crate::admits(self.phase, Kind::Finish))?;
+        let fills = &self.fills[..self.fill_count];
+        Refusal::FillsPending.unless(all_settled(fills))?;
+        let moved = u64::try_from(moved_volume(fills, self.skipped_fills))?;
+        let (p, g) = (&self.params, &self.given);
+        let shown = disclose(g.policy, g.band_bps, self.cleared.clear_price, moved)?;
+        let count = distinct_participants(
+            &self.orders,
             self.order_count,
-            fills,
-            m,
-            skipped,
+            &self.fills,
+            self.fill_count,
+            self.skipped_fills,
         );
-        let shown = disclosure::disclose(g.policy, g.band_bps, self.cleared.clear_price, volume.lo);
-        Print {
+        Ok(Print {
             price: shown.price,
             volume: shown.volume,
             n_investor_ids: count,
             forced_sale: p.forced,
             policy: g.policy,
-            partial: skipped != 0,
-        }
+            partial: self.skipped_fills != 0,
+        })
     }
 
     // Past the deadline the session fails.
+    #[tactic(auto, using(crate::proofs::Changing::made_expire))]
     pub fn expire(self, now: i64) -> Answer
         ensures { result ≡ answer self (call.expire now) }
     {
@@ -206,44 +188,34 @@ impl Session {
         self.made(c)
     }
 
+    #[tactic(auto, unfolding(crate::specs::Changes::change_of, crate::specs::Engine::effect, crate::specs::Engine::events, crate::specs::Settlement::expire_effect, crate::specs::Settlement::expire_events))]
     pub(crate) fn expire_change(&self, now: i64) -> Change
         ensures { result ≡ change_of self.now (call.expire now) }
     {
-        let refusal = self.expire_refusal(now);
-        if refusal != 0 {
+        if let Err(refusal) = self.expire_refusal(now) {
             return self.unchanged(refusal);
         }
-        let failed = Event::SessionFailed(DEADLINE);
+        let failed = Event::SessionFailed(Failure::Deadline as u8);
         let moved = Event::PhaseChanged {
             from: self.phase,
-            to: crate::FAILED,
+            to: Phase::Failed as u8,
         };
-        self.phase_change(crate::FAILED, EventPair::two(failed, moved))
+        self.phase_change(Phase::Failed, EventPair::two(failed, moved))
     }
 
-    fn expire_refusal(&self, now: i64) -> u8
-        ensures { result ≡ refusal self.now (call.expire now) }
+    #[tactic(auto, unfolding(laws::specs::Checks::unless, laws::specs::Checks::first_of, crate::specs::Engine::refusal, crate::specs::Engine::own_refusal, crate::specs::Call::arguments_refusal, crate::specs::Settlement::expire_refusal))]
+    fn expire_refusal(&self, now: i64) -> Result<(), Refusal>
+        ensures { refusal_in result ≡ refusal self.now (call.expire now) }
     {
-        let bad = self.checked();
-        if bad != 0 {
-            return bad;
-        }
-        let p = self.params;
-        let phase = unless(
-            crate::admits(self.phase, crate::EXPIRE),
-            refusals::WRONG_PHASE,
-        );
-        let window = unless(
-            clock::not_before(now, p.settle_deadline),
-            refusals::OUTSIDE_WINDOW,
-        );
-        first_of(phase, window)
+        self.checked()?;
+        Refusal::WrongPhase.unless(crate::admits(self.phase, Kind::Expire))?;
+        Refusal::OutsideWindow.unless(self.params.settle_deadline <= now)
     }
 }
 
 // Nothing is said of a fill that the issuer took whole.
-fn settle_events(f: Fill, fill: u32, price: u64) -> EventPair
-    ensures { result ≡ event_pair (if f.qty == 0 then [] else FillSettled fill f.qty price ∷ []) }
+fn settle_events(f: &Fill, fill: u32, price: u64) -> EventPair
+    ensures { result ≡ event_pair (if f.now.qty == 0 then [] else FillSettled fill f.now.qty price ∷ []) }
 {
     if f.qty == 0 {
         return EventPair::none();
@@ -255,13 +227,7 @@ fn settle_events(f: Fill, fill: u32, price: u64) -> EventPair
     })
 }
 
-// One more, or the largest 32-bit number.
-fn saturating_next(n: u32) -> u32
-    ensures { result ≡ min (n + 1) (2 ^ 32 - 1) }
-{
-    if n < u32::MAX { n + 1 } else { n }
-}
-
+#[tactic(auto, unfolding(laws::specs::Bits::with_bit))]
 fn with_bit(word: u32, i: u32) -> u32
     requires { i < max_fills }
     ensures { result ≡ with_bit word i }
@@ -269,43 +235,22 @@ fn with_bit(word: u32, i: u32) -> u32
     word | (1 << i)
 }
 
-fn all_settled(fills: [Fill; Session::MAX_FILLS], m: usize) -> bool
-    requires { m ≤ max_fills }
-    ensures { result ≡ every (λ i. (fill_in fills i).settled) m }
+fn all_settled(fills: &[Fill]) -> bool
+    ensures { result ≡ list_all (λ f. f.settled) fills.now }
 {
-    let mut i = 0;
-    while i < m {
-        let f = fills[i];
-        if !f.settled {
-            return false;
-        }
-        i += 1;
-    }
-    true
+    fills.iter().all(|f| f.settled)
 }
 
-// What moved, in two words: the source checks the sum at 64 bits.
-fn moved_volume(fills: [Fill; Session::MAX_FILLS], m: usize, skipped: u32) -> Wide
-    requires { m ≤ max_fills }
-    ensures { value result ≡ sum_below (λ i. only (not (is_set skipped i)) (fill_in fills i).qty) m }
+// What moved, in two words: the source checks the sum at 64 bits. Nothing did of a fill that was skipped.
+fn moved_volume(fills: &[Fill], skipped: u32) -> Wide
+    requires { length fills.now ≤ max_fills }
+    ensures { result ≡ sum_below (λ i. only (not (is_set skipped i)) (fill_in fills.now i).qty) (length fills.now) }
 {
-    let mut sum = wide::of_word(0);
-    let mut i = 0;
-    while i < m {
-        let f = fills[i];
-        sum = wide::add(sum, moved_qty(f, skipped, i));
-        i += 1;
+    let mut sum = Wide::from(0);
+    for (i, f) in fills.iter().enumerate() {
+        if !is_skipped(skipped, i as u32) {
+            sum = sum.wrapping_add(f.qty);
+        }
     }
     sum
-}
-
-// What of a fill has moved: nothing, where it was skipped.
-fn moved_qty(f: Fill, skipped: u32, i: usize) -> u64
-    requires { i < max_fills }
-    ensures { result ≡ only (not (is_set skipped i)) f.qty }
-{
-    if investors::participants::is_skipped(skipped, i as u32) {
-        return 0;
-    }
-    f.qty
 }

@@ -34,17 +34,17 @@ module _ (orders : List Order) (n p : ℕ) where
   once buys = once_keep (trades_at orders n buys p) (live_orders orders n) (once_keep (λ i. is_live (order_in orders i)) (table (λ i. i) (min n max_orders)) (once_table (λ i. i) (min n max_orders) (λ _ _ h. h)))
 
   below : (buys : Bool) (i : ℕ) → Member i (S buys) → i < min n max_orders
-  below buys i m = (live_inside orders n i (side_inside orders n buys p i m).0).0
+  below buys i m = ((live_inside orders n i).0 ((side_inside orders n buys p i).0 m).0).0
 
   takes_part_lem : (buys : Bool) (i : ℕ) → Member i (S buys) → ((ltb i n && is_live (order_in orders i)) && trades_at orders n buys p i) ≡ true
   takes_part_lem buys i m =
-      let s = side_inside orders n buys p i m in
-      let l = live_inside orders n i s.0 in
+      let s = (side_inside orders n buys p i).0 m in
+      let l = (live_inside orders n i).0 s.0 in
       rw (lt-ltb i n (omega (arith, l.0)), l.1, s.1)
 
   of_side : (buys : Bool) (i : ℕ) → Member i (S buys) → is_buy (order_in orders i) ≡ buys
   unfolding trades_at
-  of_side buys i m = go buys (is_buy (order_in orders i)) (side_inside orders n buys p i m).1
+  of_side buys i m = go buys (is_buy (order_in orders i)) ((side_inside orders n buys p i).0 m).1
     where
       go : (side b : Bool) → cond side (b && leb p (order_in orders i).limit) (not b && leb (order_in orders i).limit p) ≡ true → b ≡ side
       go true true e = refl

@@ -19,12 +19,11 @@ use Rattle.credit_math.specs.Price.{buy, sell, executed, imbalance, executes, be
 use Rattle.credit_math.specs.ProRata.{share, shares, residue, precedes, turns, hand_out}
 use Rattle.credit_math.specs.ProRata as prorata
 use Rattle.book.specs.Book.{is_live, no_wallet, no_investor}
-use Rattle.book.specs.Clear.{stored, live_orders, searched, trades_at, side_orders, side_lots, allocations, allotted, floor_of, compute_clear, failed_by, refused_with}
+use Rattle.book.specs.Clear.{stored, live_orders, searched, trades_at, side_orders, side_lots, allocations, allotted, floor_of, compute_clear, failed_by, refused_with, Outcome}
 use Rattle.book.specs.Claims.{Clearable, RightClear}
 use Rattle.book.specs.declared.Order.{Order}
 use Rattle.book.specs.declared.Params.{Params}
 use Rattle.book.specs.declared.Given.{Given}
-use Rattle.book.specs.declared.clear.Outcome.{Outcome}
 use Rattle.book.proofs.Theorems.{clear_is_right}
 
 -- case L: 2 reveals, unforced, mark 1, reserve 9, reference 10; buy 5 at 12, buy 3 at 11, sell 4 at 9, sell 3 at 11, all screened

@@ -22,8 +22,7 @@ use Rattle.book.specs.Book.{order_in, is_buy}
 use Rattle.book.specs.Clear.{stored, live_orders, trades_at, side_orders, side_lots}
 use Rattle.book.specs.Gathered.{buys_of, limits_of, qtys_of, SideGathered, Within}
 use Rattle.book.specs.declared.Order.{Order}
-use Rattle.book.specs.declared.clear.Side.{Side}
-use Rattle.book.proofs.Live.{side_few}
+use Rattle.book.specs.declared.gathered.Side.{Side}
 
 module _ (orders : List Order) (n p : ℕ) where
   abbrev L : List ℕ
@@ -65,7 +64,7 @@ module _ (orders : List Order) (n p : ℕ) where
   side_allotted buys {v} {s} g w out e =
       let S = side_orders orders n buys p in
       let same : length (map qty S) ≡ length S = length-map S qty in
-      let verdict = in_sum S (map qty S) (length out) v (omega (arith, same, g.counted, side_few g)) (sym same) (e ∙ g.counted ∙ sym same) (side_has buys w) in
+      let verdict = in_sum S (map qty S) (length out) v (omega (arith, s.few)) (sym same) (e ∙ g.counted ∙ sym same) (side_has buys w) in
       rw (g.numbers, g.qtys, eq-eqb _ _ verdict)
 
   -- and storing them from the array is storing them

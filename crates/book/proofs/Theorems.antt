@@ -1,7 +1,7 @@
 -- The clear of a session's orders is right: Demand 2 over `compute_clear`. Assumes nothing.
 use mathlib.Core.Path.{◌≡◌, refl, sym, ◌∙◌, ap}
 use mathlib.Core.Logic.{◌↔◌, ⊎_elim}
-use mathlib.Core.Bool.{Bool, true, false, not, ◌&&◌}
+use mathlib.Core.Bool.{true, false, not, ◌&&◌}
 use mathlib.Core.List.{List}
 use Prim.Native.Nat.{ℕ, ◌^◌, ◌≤◌, ◌<◌}
 use native.Mathlib.Omega.{arith}
@@ -11,20 +11,18 @@ use borrow.Author.Tests.{ltb-true, ltb-false, lt-ltb, le-ltb}
 use Rattle.laws.proofs.Tests.{tested}
 use Rattle.laws.proofs.Lists.{map_members}
 use Rattle.credit_math.specs.Error.{no_cross}
-use Rattle.credit_math.specs.Price.{Best, none, at, clear_price, priced}
+use Rattle.credit_math.specs.Price.{Found}
 use Rattle.credit_math.specs.Claims as math
-use Rattle.credit_math.proofs.Best.{BestOf, best_of, best_beats, beats_one}
-use Rattle.credit_math.proofs.Price.{better_irrefl, better_trans, better_total, clear_price_best}
+use Rattle.credit_math.proofs.PriceTheorems.{price_is_right}
 use Rattle.book.specs.Book.{order_in}
-use Rattle.book.specs.Clear.{live_orders, allocations, allotted, floor_of, compute_clear, failed_by, too_few_reveals, mark_unavailable}
+use Rattle.book.specs.Clear.{live_orders, searched, allocations, allotted, floor_of, compute_clear, failed_by, too_few_reveals, mark_unavailable, Outcome}
 use Rattle.book.specs.Gathered.{buys_of, limits_of, qtys_of}
-use Rattle.book.specs.Claims.{Executes, BestPrice, executed_at, better_than, Clearable, RightAllocations, Priced, RightClear, no_crossing, too_large, has_price, ClearIsRight}
+use Rattle.book.specs.Claims.{Executes, BestPrice, executed_at, Clearable, RightAllocations, Priced, RightClear, no_crossing, too_large, has_price, ClearIsRight}
 use Rattle.book.specs.declared.Order.{Order}
 use Rattle.book.specs.declared.Params.{Params}
 use Rattle.book.specs.declared.Given.{Given}
-use Rattle.book.specs.declared.clear.Outcome.{Outcome}
-use Rattle.book.proofs.Live.{live_inside, live_member}
-use Rattle.book.proofs.Outcomes.{searched_is, executed_within}
+use Rattle.book.proofs.Live.{live_inside}
+use Rattle.book.proofs.Outcomes.{accepted, right_search, executed_within}
 use Rattle.book.proofs.Allocations.{allocation_within, allocation_others, side_adds_up}
 
 module _ (p : Params) (g : Given) (orders : List Order) (n : ℕ) where
@@ -34,54 +32,37 @@ module _ (p : Params) (g : Given) (orders : List Order) (n : ℕ) where
   abbrev v : ℕ → ℕ
   v = executed_at p g orders n
 
-  abbrev B : ℕ → ℕ → Bool
-  B = better_than p g orders n
-
-  -- the order is strict and total
-  irrefl : (q : ℕ) → B q q ≡ false
-  irrefl = better_irrefl (buys_of orders n) (limits_of orders n) (qtys_of orders n) g.reference
-
-  trans : (q r s : ℕ) → B q r ≡ true → B r s ≡ true → B q s ≡ true
-  trans = better_trans (buys_of orders n) (limits_of orders n) (qtys_of orders n) g.reference
-
-  total : (q r : ℕ) → B q r ≡ false → B r q ≡ false → q ≡ r
-  total = better_total (buys_of orders n) (limits_of orders n) (qtys_of orders n) g.reference
+  -- the best price of the live orders as the search has them
+  abbrev Best : ℕ → Type 0
+  Best = math.BestPrice (buys_of orders n) (limits_of orders n) (qtys_of orders n) (floor_of p g) g.reference
 
   -- the limits of the list are those of the live orders, by number
   by_number : (q : ℕ) → math.Executes (buys_of orders n) (limits_of orders n) (qtys_of orders n) (floor_of p g) q → E q
   by_number q h =
       let r = (map_members (λ i. (order_in orders i).limit) q (live_orders orders n)).0 h.limit in
-      let l = live_inside orders n r.0 r.1 in
+      let l = (live_inside orders n r.0).0 r.1 in
       record { order = r.0; below = l.0; live = l.1; limit = r.2; floor = h.floor; some = h.some }
 
   by_list : (q : ℕ) → E q → math.Executes (buys_of orders n) (limits_of orders n) (qtys_of orders n) (floor_of p g) q
   by_list q h = record {
-    limit = (map_members (λ i. (order_in orders i).limit) q (live_orders orders n)).1 (h.order, live_member orders n h.order h.below h.live, h.limit);
+    limit = (map_members (λ i. (order_in orders i).limit) q (live_orders orders n)).1 (h.order, (live_inside orders n h.order).1 (h.below, h.live), h.limit);
     floor = h.floor;
     some = h.some;
   }
 
-  -- the search's best, by number
-  abbrev found : Best
-  found = clear_price (buys_of orders n) (limits_of orders n) (qtys_of orders n) (floor_of p g) g.reference
+  -- it is the best by number
+  best_by_number : (q : ℕ) → Best q → BestPrice p g orders n q
+  best_by_number q h = record { executes = by_number q h.executes; beats = λ r m ne. h.beats r (by_list r m) ne }
 
-  found_best : BestOf B E found
-  found_best =
-      best_of B (math.Executes (buys_of orders n) (limits_of orders n) (qtys_of orders n) (floor_of p g)) E found by_number by_list
-      (clear_price_best (buys_of orders n) (limits_of orders n) (qtys_of orders n) g.reference (floor_of p g))
+  -- and the other way round
+  best_by_list : (q : ℕ) → BestPrice p g orders n q → Best q
+  best_by_list q h = record { executes = by_list q h.executes; beats = λ r m ne. h.beats r (by_number r m) ne }
 
-  -- a clear is that of the search's best
-  cleared : Clearable p g orders n → compute_clear p g orders n ≡ allotted orders n (priced v found)
-  unfolding compute_clear
-  cleared c = rw (le-ltb (length (live_orders orders n)) p.min_reveals c.enough, c.marked) (ap (allotted orders n) (searched_is orders n (floor_of p g) g.reference))
-
-  -- the best of those that execute is better than any other
-  is_best : (q : ℕ) → BestOf B E (at q) → BestPrice p g orders n q
-  is_best q h = record { executes = h.0; beats = λ r m ne. best_beats B irrefl trans total E q r h m ne }
-
+  -- there is one best price
   one_best : (q r : ℕ) → BestPrice p g orders n q → BestPrice p g orders n r → q ≡ r
-  one_best q r h k = beats_one B irrefl trans total q r (h.beats r k.executes) (k.beats q h.executes)
+  one_best q r h k = (price_is_right (buys_of orders n) (limits_of orders n) (qtys_of orders n) (floor_of p g) g.reference).one_best q r (best_by_list q h) (best_by_list r k)
 
+  -- the lots of what a price executes are right
   pub right_lots : (q : ℕ) → RightAllocations p g orders n q (v q) (allocations orders n q (v q))
   right_lots q = record {
     sides = side_adds_up orders n q (v q) (executed_within orders n q);
@@ -90,18 +71,24 @@ module _ (p : Params) (g : Given) (orders : List Order) (n : ℕ) where
     pro_rata = refl;
   }
 
-  right_best : (b : Best) → BestOf B E b → RightClear p g orders n (allotted orders n (priced v b))
+  -- a right search makes a right clear
+  right_found : (f : Found) → math.RightPrice (buys_of orders n) (limits_of orders n) (qtys_of orders n) (floor_of p g) g.reference f → RightClear p g orders n (allotted orders n f)
   unfolding allotted
-  right_best none h = no_crossing h refl
-  right_best (at q) h =
-      ⊎_elim
+  right_found f (math.turned_away z e) = absurd (omega (arith, accepted orders n))
+  right_found f (math.no_crossing z h e) = rw e (no_crossing (λ q k. h q (by_list q k)) refl)
+  right_found f (math.cross_at z q h e) =
+      let best = best_by_number q h in
+      rw e
+      (⊎_elim
       (λ (t : ltb (v q) (2 ^ 64) ≡ true).
-      rw t (has_price (record { refusal = refl; failed = refl; best = is_best q h; volume = refl; fits = ltb-true (v q) (2 ^ 64) t; lots = right_lots q })))
-      (λ (t : ltb (v q) (2 ^ 64) ≡ false). rw t (too_large q (is_best q h) (ltb-false (v q) (2 ^ 64) t) refl))
-      (tested (ltb (v q) (2 ^ 64)))
+      rw t (has_price (record { refusal = refl; failed = refl; best = best; volume = refl; fits = ltb-true (v q) (2 ^ 64) t; lots = right_lots q })))
+      (λ (t : ltb (v q) (2 ^ 64) ≡ false). rw t (too_large q best (ltb-false (v q) (2 ^ 64) t) refl))
+      (tested (ltb (v q) (2 ^ 64))))
 
+  -- the search of the live orders is right
   right : Clearable p g orders n → RightClear p g orders n (compute_clear p g orders n)
-  right c = rw (cleared c) (right_best found found_best)
+  unfolding compute_clear
+  right c = rw (le-ltb (length (live_orders orders n)) p.min_reveals c.enough, c.marked) (right_found (searched orders n (floor_of p g) g.reference) (right_search orders n (floor_of p g) g.reference))
 
   -- an outcome with a price follows from the price
   abbrev pub at_price : ℕ → Outcome

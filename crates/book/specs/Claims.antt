@@ -5,11 +5,10 @@ use Rattle.credit_math.specs.Limits.{max_orders}
 use Rattle.credit_math.specs.Error.{no_cross}
 use Rattle.credit_math.specs.Price.{executed, better}
 use Rattle.book.specs.Book.{order_in, is_live, is_buy}
-use Rattle.book.specs.Clear.{live_orders, trades_at, allocations, floor_of, compute_clear, failed_by, refused_with, too_few_reveals, mark_unavailable, math_overflow}
+use Rattle.book.specs.Clear.{live_orders, trades_at, allocations, floor_of, compute_clear, Outcome, failed_by, refused_with, too_few_reveals, mark_unavailable, math_overflow}
 use Rattle.book.specs.declared.Order.{Order}
 use Rattle.book.specs.declared.Params.{Params}
 use Rattle.book.specs.declared.Given.{Given}
-use Rattle.book.specs.declared.clear.Outcome.{Outcome}
 
 module _ (p : Params) (g : Given) (orders : List Order) (n : ℕ) where
   -- what a price executes of the live orders

@@ -1,14 +1,27 @@
 -- `compute_clear` from its list `orders` on, with the two checks before it.
-use Rattle.std.specs.Prelude.{Bool, true, false, if◌then◌else◌, not, ◌&&◌, List, [], ◌∷◌, map, ℕ, ◌^◌, min, nat_lt, nat_le, length, set, replicate}
+use Rattle.std.specs.Prelude.{Bool, true, false, if◌then◌else◌, not, ◌&&◌, List, [], ◌∷◌, map, ℕ, ◌^◌, min, nat_lt, nat_le, length, set, replicate, Result, Ok, Err}
 use Rattle.laws.specs.Lists.{table, keep}
 use Rattle.credit_math.specs.Limits.{max_orders}
+use Rattle.credit_math.specs.Error.{no_cross}
 use Rattle.credit_math.specs.Price.{Found, refused, failed, cross, find_uniform_clear_price}
 use Rattle.credit_math.specs.ProRata.{lots}
 use Rattle.book.specs.Book.{order_in, is_live, is_buy}
 use Rattle.book.specs.declared.Order.{Order}
 use Rattle.book.specs.declared.Params.{Params}
 use Rattle.book.specs.declared.Given.{Given}
-use Rattle.book.specs.declared.clear.Outcome.{Outcome}
+use Rattle.book.specs.declared.clear.Cross.{Cross}
+use Rattle.book.specs.declared.clear.Failure.{Failure}
+use Rattle.book.specs.declared.clear.Failure.TheVariants.{TooFewReveals, NoCross, MarkUnavailable, Deadline}
+use Rattle.refusals.specs.Number.{number}
+use Rattle.refusals.specs.declared.Refusal.{Refusal}
+
+-- what a clear comes to: refused by a number, failed for a reason, or a price with volume and lots by order number
+pub record Outcome : Type 0 where
+  pub refusal : ℕ
+  pub failed : ℕ
+  pub price : ℕ
+  pub volume : ℕ
+  pub lots : List ℕ
 
 -- reasons of a failed clear: TooFewReveals 1, MarkUnavailable 3; NoCross 2 is the price search's
 abbrev pub too_few_reveals : ℕ
@@ -16,6 +29,10 @@ too_few_reveals = 1
 
 abbrev pub mark_unavailable : ℕ
 mark_unavailable = 3
+
+-- 'Deadline 4 is expire's'
+abbrev pub deadline : ℕ
+deadline = 4
 
 -- 17: a volume above 64 bits
 abbrev pub math_overflow : ℕ
@@ -27,6 +44,18 @@ failed_by reason = record { refusal = 0; failed = reason; price = 0; volume = 0;
 
 abbrev pub refused_with : ℕ → Outcome
 refused_with number = record { refusal = number; failed = 0; price = 0; volume = 0; lots = replicate max_orders 0 }
+
+-- the declared answer: this paper's number and values for each of its cases
+abbrev pub reason : Failure → ℕ
+reason TooFewReveals = too_few_reveals
+reason NoCross = no_cross
+reason MarkUnavailable = mark_unavailable
+reason Deadline = deadline
+
+abbrev pub outcome_of : Result (Result Cross Failure) Refusal → Outcome
+outcome_of (Err r) = refused_with (number r)
+outcome_of (Ok (Err f)) = failed_by (reason f)
+outcome_of (Ok (Ok c)) = record { refusal = 0; failed = 0; price = c.price; volume = c.volume; lots = c.lots }
 
 -- values put at their places, one after the other
 unfoldable pub stored : (places values into : List ℕ) → List ℕ

@@ -1,13 +1,14 @@
 -- What the private functions hand each other: arrays of which the first `count` places hold the lists of Clear.antt.
-use Rattle.std.specs.Prelude.{◌≡◌, Bool, List, map, ℕ, ◌≤◌, ◌<◌, length, take, slice_index}
-use Rattle.credit_math.specs.Limits.{max_orders}
+use Rattle.std.specs.Prelude.{◌≡◌, Bool, List, map, ℕ, ◌≤◌, length, take, Result}
 use Rattle.credit_math.specs.Price.{buy, sell, cross}
 use Rattle.book.specs.Book.{order_in, is_buy}
-use Rattle.book.specs.Clear.{stored, live_orders, searched, side_orders, side_lots, allocations, allotted}
+use Rattle.book.specs.Clear.{outcome_of, stored, live_orders, searched, side_orders, side_lots, allocations, allotted}
 use Rattle.book.specs.declared.Order.{Order}
-use Rattle.book.specs.declared.clear.Live.{Live}
-use Rattle.book.specs.declared.clear.Side.{Side}
-use Rattle.book.specs.declared.clear.Outcome.{Outcome}
+use Rattle.refusals.specs.declared.Refusal.{Refusal}
+use Rattle.book.specs.declared.gathered.Live.{Live}
+use Rattle.book.specs.declared.gathered.Side.{Side}
+use Rattle.book.specs.declared.clear.Cross.{Cross}
+use Rattle.book.specs.declared.clear.Failure.{Failure}
 
 module _ (orders : List Order) (n : ℕ) where
   -- sides, limits and quantities of the list `orders`
@@ -39,17 +40,6 @@ module _ (orders : List Order) (n : ℕ) where
     pub bought : v ≤ buy buys_of limits_of qtys_of p
     pub sold : v ≤ sell buys_of limits_of qtys_of p
 
--- the live orders of some book
-pub record FromBook (l : Live) : Type 0 where
-  pub orders : List Order
-  pub n : ℕ
-  pub gathered : Gathered orders n l
-
--- n places of a book
-pub record Places (places : List ℕ) (n : ℕ) : Type 0 where
-  pub few : n ≤ max_orders
-  pub inside : (i : ℕ) → i < n → slice_index places i < max_orders
-
 -- what the functions answer, of whatever book the live orders are
 module _ (l : Live) where
   -- the orders of a side that trade at p
@@ -65,9 +55,9 @@ module _ (l : Live) where
   Allocated p v out = (orders : List Order) (n : ℕ) → Gathered orders n l → Within orders n p v → out ≡ allocations orders n p v
 
   -- the outcome at a price with its volume
-  abbrev pub Priced : (p v : ℕ) → Outcome → Type 0
-  Priced p v o = (orders : List Order) (n : ℕ) → Gathered orders n l → Within orders n p v → o ≡ allotted orders n (cross p v)
+  abbrev pub Priced : (p v : ℕ) → Result (Result Cross Failure) Refusal → Type 0
+  Priced p v o = (orders : List Order) (n : ℕ) → Gathered orders n l → Within orders n p v → outcome_of o ≡ allotted orders n (cross p v)
 
   -- the outcome of the search
-  abbrev pub Cleared : (reserve reference : ℕ) → Outcome → Type 0
-  Cleared reserve reference o = (orders : List Order) (n : ℕ) → Gathered orders n l → o ≡ allotted orders n (searched orders n reserve reference)
+  abbrev pub Cleared : (reserve reference : ℕ) → Result (Result Cross Failure) Refusal → Type 0
+  Cleared reserve reference o = (orders : List Order) (n : ℕ) → Gathered orders n l → outcome_of o ≡ allotted orders n (searched orders n reserve reference)

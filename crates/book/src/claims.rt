@@ -6,6 +6,7 @@ ghost use Rattle.book.specs.declared.Params.{Params};
 ghost use Rattle.book.specs.declared.Given.{Given};
 ghost use Rattle.book.specs.Claims.{ClearIsRight};
 
+#[tactic(auto, using(crate::proofs::Theorems::clear_is_right))]
 pub fn clear_is_right()
     ensures { (p : Params) (g : Given) (orders : List Order) (n : ℕ) → ClearIsRight p g orders n }
 {}

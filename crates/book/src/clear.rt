@@ -1,235 +1,163 @@
 // `compute_clear`: the live orders gathered, the price, and the lots.
-ghost use Rattle.std.specs.Prelude.{◌≡◌, false, if◌then◌else◌, not, ◌&&◌, min, nat_le, take, replicate};
-ghost use Rattle.wide.specs.Value.{value};
+ghost use Rattle.std.specs.Prelude.{◌≡◌, if◌then◌else◌, not, ◌&&◌, ◌≤◌, ◌<◌, nat_le, length, slice_index, ℕ};
 ghost use Rattle.credit_math.specs.Limits.{max_orders};
-ghost use Rattle.book.specs.Clear.{stored, floor_of, compute_clear};
-ghost use Rattle.book.specs.Gathered.{Gathered, FromBook, Cleared, Priced, Allocated, Allotted, Trading, Places};
+ghost use Rattle.book.specs.Clear.{stored, floor_of, outcome_of, compute_clear};
+ghost use Rattle.book.specs.Gathered.{Gathered, Cleared, Priced, Allocated, Allotted, Trading};
 
+use crate::gathered::{Live, Side};
 use crate::{Given, Order, Params};
 use credit_math::MAX_ORDERS;
-use credit_math::allocation::Clearing;
-use laws::checks::either;
+use credit_math::allocation::{allocate_pro_rata, find_uniform_clear_price};
+use refusals::Refusal;
 use wide::Wide;
 
-// TooFewReveals 1, NoCross 2, MarkUnavailable 3.
-const TOO_FEW_REVEALS: u8 = 1;
+// Why a session fails: a clear that finds no price, or the deadline.
+#[derive(Clone, Copy, Debug, PartialEq, Eq)]
+pub enum Failure {
+    TooFewReveals = 1,
+    NoCross = 2,
+    MarkUnavailable = 3,
+    Deadline = 4,
+}
 
-const NO_CROSS: u8 = 2;
-
-const MARK_UNAVAILABLE: u8 = 3;
-
-// What a clear finds: refused by a number, failed for a reason, or a price with volume and lots by order number.
-#[derive(Clone, Copy, Drop)]
-pub struct Outcome {
-    pub refusal: u8,
-    pub failed: u8,
+// A price with volume and lots by order number.
+#[derive(Clone, Copy, Debug, PartialEq, Eq)]
+pub struct Cross {
     pub price: u64,
     pub volume: u64,
     pub lots: [u64; MAX_ORDERS],
 }
 
+// What a clear finds where nothing refuses it.
+pub type Outcome = Result<Cross, Failure>;
+
 // The live orders among the first n. A count above the limit is read as the limit.
-pub fn compute_clear(p: Params, g: Given, orders: [Order; MAX_ORDERS], n: usize) -> Outcome
-    ensures { result ≡ compute_clear p g orders n }
+#[tactic(auto, using(crate::proofs::Live::first_live, std::proofs::lemmas::Bool::Decides::nat_tests), unfolding(crate::specs::Clear::compute_clear))]
+pub fn compute_clear(
+    p: &Params,
+    g: &Given,
+    orders: &[Order; MAX_ORDERS],
+    n: usize,
+) -> Result<Outcome, Refusal>
+    ensures { outcome_of result ≡ compute_clear p.now g.now orders.now n }
 {
-    let live = live_orders(orders, n);
-    let count = live.count as u64;
-    let least = p.min_reveals as u64;
-    if count < least {
-        return no_lots(0, TOO_FEW_REVEALS);
+    let live = live_orders(&orders[..n.min(MAX_ORDERS)]);
+    if live.count < usize::from(p.min_reveals) {
+        return Ok(Err(Failure::TooFewReveals));
     }
-    if either(p.forced, g.mark) {
-        return outcome_of(live, floor_of(p, g), g.reference);
+    if p.forced | g.mark {
+        return live.clear(floor_of(p, g), g.reference);
     }
-    no_lots(0, MARK_UNAVAILABLE)
+    Ok(Err(Failure::MarkUnavailable))
 }
 
 // The reserve that the clear goes by: none in a forced sale.
-pub fn floor_of(p: Params, g: Given) -> u64
-    ensures { result ≡ floor_of p g }
+#[tactic(auto, unfolding(crate::specs::Clear::floor_of))]
+pub fn floor_of(p: &Params, g: &Given) -> u64
+    ensures { result ≡ floor_of p.now g.now }
 {
     if p.forced { 0 } else { g.reserve }
 }
 
-// Refused or failed: no price, and no lot.
-fn no_lots(refusal: u8, failed: u8) -> Outcome
-    ensures { result ≡ record { refusal = refusal; failed = failed; price = 0; volume = 0; lots = replicate max_orders 0 } }
-{
-    let lots: [u64; MAX_ORDERS] = [0; MAX_ORDERS];
-    Outcome {
-        refusal,
-        failed,
-        price: 0,
-        volume: 0,
-        lots,
-    }
-}
-
-// The live orders, one behind the other: the first `count` places hold their numbers, sides, limits and quantities.
-#[derive(Clone, Copy, Drop)]
-pub struct Live {
-    pub numbers: [u64; MAX_ORDERS],
-    pub is_buy: [bool; MAX_ORDERS],
-    pub limits: [u64; MAX_ORDERS],
-    pub qtys: [u64; MAX_ORDERS],
-    pub count: usize,
-}
-
 // Each order is written at the next place, and the place is kept where the order is live.
-fn live_orders(orders: [Order; MAX_ORDERS], n: usize) -> Live
-    ensures { Gathered orders n result }
+fn live_orders(orders: &[Order]) -> Live
+    requires { length orders.now ≤ max_orders }
+    ensures { Gathered orders.now (length orders.now) result }
 {
-    let m = at_most_orders(n);
-    let mut live = no_orders();
+    let mut numbers = [0; MAX_ORDERS];
+    let mut is_buy = [false; MAX_ORDERS];
+    let mut limits = [0; MAX_ORDERS];
+    let mut qtys = [0; MAX_ORDERS];
     let mut count = 0;
-    let mut i = 0;
-    while i < m {
-        let o = orders[i];
-        live.numbers[count] = i as u64;
-        live.is_buy[count] = o.side == 0;
-        live.limits[count] = o.limit;
-        live.qtys[count] = o.qty;
-        count += place(o.is_live());
-        i += 1;
+    for (i, o) in orders.iter().enumerate() {
+        numbers[count] = i as u64;
+        is_buy[count] = o.side == 0;
+        limits[count] = o.limit;
+        qtys[count] = o.qty;
+        count += usize::from(o.is_live());
     }
-    live.count = count;
-    live
-}
-
-fn no_orders() -> Live
-    ensures { result ≡ record { numbers = replicate max_orders 0; is_buy = replicate max_orders false; limits = replicate max_orders 0; qtys = replicate max_orders 0; count = 0 } }
-{
-    let numbers: [u64; MAX_ORDERS] = [0; MAX_ORDERS];
-    let is_buy: [bool; MAX_ORDERS] = [false; MAX_ORDERS];
-    let limits: [u64; MAX_ORDERS] = [0; MAX_ORDERS];
-    let qtys: [u64; MAX_ORDERS] = [0; MAX_ORDERS];
     Live {
+        count,
         numbers,
         is_buy,
         limits,
         qtys,
-        count: 0,
     }
 }
 
-// A count above the limit is read as the limit.
-pub fn at_most_orders(n: usize) -> usize
-    ensures { result ≡ min n max_orders }
-{
-    if n < MAX_ORDERS { n } else { MAX_ORDERS }
-}
-
-// How many places an order takes.
-fn place(kept: bool) -> usize
-    ensures { result ≡ (if kept then 1 else 0) }
-{
-    if kept { 1 } else { 0 }
-}
-
-// The clearing of the live orders.
-fn outcome_of(live: Live, reserve: u64, reference: u64) -> Outcome
-    requires { FromBook live }
-    ensures { Cleared live reserve reference result }
-{
-    let is_buy = live.is_buy;
-    let limits = live.limits;
-    let qtys = live.qtys;
-    let n = live.count;
-    let found = credit_math::allocation::find_uniform_clear_price(
-        &is_buy[..n],
-        &limits[..n],
-        &qtys[..n],
-        reserve,
-        reference,
-    );
-    match found {
-        Clearing::Refused(number) => no_lots(number, 0),
-        Clearing::NoCross => no_lots(0, NO_CROSS),
-        Clearing::Cross(result) => priced(live, result.clear_price, result.executed_qty),
+impl Live {
+    // The clearing of the live orders.
+    #[tactic(auto, unfolding(crate::specs::Clear::allotted, crate::specs::Clear::searched))]
+    fn clear(&self, reserve: u64, reference: u64) -> Result<Outcome, Refusal>
+        ensures { Cleared self.now reserve reference result }
+    {
+        let n = self.count;
+        let found = find_uniform_clear_price(
+            &self.is_buy[..n],
+            &self.limits[..n],
+            &self.qtys[..n],
+            reserve,
+            reference,
+        )?;
+        match found {
+            None => Ok(Err(Failure::NoCross)),
+            Some(cross) => self.priced(cross.clear_price, cross.executed_qty),
+        }
     }
-}
 
-// Price, volume and lots, or 17 where the volume does not fit.
-fn priced(live: Live, price: u64, executed: Wide) -> Outcome
-    requires { FromBook live }
-    ensures { Priced live price (value executed) result }
-{
-    if wide::fits_word(executed) {
-        let volume = executed.lo;
-        let lots = lots_of(live, price, volume);
-        return Outcome {
-            refusal: 0,
-            failed: 0,
+    // Price, volume and lots, or 17 where the volume does not fit.
+    #[tactic(auto, unfolding(crate::specs::Clear::allotted))]
+    fn priced(&self, price: u64, executed: Wide) -> Result<Outcome, Refusal>
+        ensures { Priced self.now price executed result }
+    {
+        let volume = u64::try_from(executed)?;
+        let lots = self.lots_of(price, volume);
+        Ok(Ok(Cross {
             price,
             volume,
             lots,
-        };
+        }))
     }
-    no_lots(refusals::MATH_OVERFLOW, 0)
-}
 
-// Each order's lot by its number: first the buyers', then the sellers'.
-fn lots_of(live: Live, p: u64, volume: u64) -> [u64; MAX_ORDERS]
-    requires { FromBook live }
-    ensures { Allocated live p volume result }
-{
-    let none: [u64; MAX_ORDERS] = [0; MAX_ORDERS];
-    let bought = with_lots(true, live, p, volume, none);
-    with_lots(false, live, p, volume, bought)
-}
-
-// A side's lots, put at their order numbers.
-fn with_lots(
-    buys: bool,
-    live: Live,
-    p: u64,
-    volume: u64,
-    into: [u64; MAX_ORDERS],
-) -> [u64; MAX_ORDERS]
-    requires { FromBook live }
-    ensures { Allotted live buys p volume into result }
-{
-    let side = side_orders(buys, live, p);
-    let numbers = side.numbers;
-    let qtys = side.qtys;
-    let n = side.count;
-    let mut lots: [u64; MAX_ORDERS] = [0; MAX_ORDERS];
-    credit_math::allocation::allocate_pro_rata(volume, &numbers[..n], &qtys[..n], &mut lots[..n]);
-    put(numbers, lots, n, into)
-}
-
-// The live orders of a side that trade at a price, by number and quantity.
-#[derive(Clone, Copy, Drop)]
-pub struct Side {
-    pub numbers: [u64; MAX_ORDERS],
-    pub qtys: [u64; MAX_ORDERS],
-    pub count: usize,
-}
-
-// A side's orders that trade at a price, one behind the other.
-fn side_orders(buys: bool, live: Live, p: u64) -> Side
-    requires { FromBook live }
-    ensures { Trading live buys p result }
-{
-    let all = live.numbers;
-    let is_buy = live.is_buy;
-    let limits = live.limits;
-    let wanted = live.qtys;
-    let n = live.count;
-    let mut numbers: [u64; MAX_ORDERS] = [0; MAX_ORDERS];
-    let mut qtys: [u64; MAX_ORDERS] = [0; MAX_ORDERS];
-    let mut count = 0;
-    let mut i = 0;
-    while i < n {
-        numbers[count] = all[i];
-        qtys[count] = wanted[i];
-        count += place(trades_at(buys, is_buy[i], limits[i], p));
-        i += 1;
+    // Each order's lot by its number: first the buyers', then the sellers'.
+    #[tactic(auto, unfolding(crate::specs::Clear::allocations))]
+    fn lots_of(&self, p: u64, volume: u64) -> [u64; MAX_ORDERS]
+        ensures { Allocated self.now p volume result }
+    {
+        let mut lots = [0; MAX_ORDERS];
+        self.put_lots(true, p, volume, &mut lots);
+        self.put_lots(false, p, volume, &mut lots);
+        lots
     }
-    Side {
-        numbers,
-        qtys,
-        count,
+
+    // A side's lots, put at their order numbers.
+    fn put_lots(&self, buys: bool, p: u64, volume: u64, out: &mut [u64; MAX_ORDERS])
+        ensures { Allotted self.now buys p volume out.old out.new }
+    {
+        let side = self.side_orders(buys, p);
+        let n = side.count;
+        let mut lots = [0; MAX_ORDERS];
+        let _ = allocate_pro_rata(volume, &side.numbers[..n], &side.qtys[..n], &mut lots[..n]);
+        put(&side.numbers[..n], &lots[..n], out);
+    }
+
+    // A side's orders that trade at a price, one behind the other.
+    fn side_orders(&self, buys: bool, p: u64) -> Side
+        ensures { Trading self.now buys p result }
+    {
+        let mut numbers = [0; MAX_ORDERS];
+        let mut qtys = [0; MAX_ORDERS];
+        let mut count = 0;
+        for i in 0..self.count {
+            numbers[count] = self.numbers[i];
+            qtys[count] = self.qtys[i];
+            count += usize::from(trades_at(buys, self.is_buy[i], self.limits[i], p));
+        }
+        Side {
+            count,
+            numbers,
+            qtys,
+        }
     }
 }
 
@@ -238,33 +166,21 @@ fn trades_at(buys: bool, is_buy: bool, limit: u64, p: u64) -> bool
     ensures { result ≡ (if buys then is_buy && nat_le p limit else not is_buy && nat_le limit p) }
 {
     if buys {
-        if is_buy {
-            return p <= limit;
-        }
-        return false;
+        is_buy & (p <= limit)
+    } else {
+        !is_buy & (limit <= p)
     }
-    if is_buy {
-        return false;
-    }
-    limit <= p
 }
 
-// The first n values at the places that stand beside them.
-fn put(
-    places: [u64; MAX_ORDERS],
-    values: [u64; MAX_ORDERS],
-    n: usize,
-    into: [u64; MAX_ORDERS],
-) -> [u64; MAX_ORDERS]
-    requires { Places places n }
-    ensures { result ≡ stored (take n places) (take n values) into }
+// Values at the places that stand beside them.
+#[tactic(auto, using(crate::proofs::Stored::stored_more, crate::proofs::Stored::all_stored))]
+fn put(places: &[u64], values: &[u64], out: &mut [u64; MAX_ORDERS])
+    requires inside { (i : ℕ) → i < length places.now → slice_index places.now i < max_orders }
+    requires beside { length values.now ≡ length places.now }
+    ensures { out.new ≡ stored places.now values.now out.old }
 {
-    let mut out = into;
-    let mut i = 0;
-    while i < n {
-        let at = places[i] as usize;
+    for (i, &place) in places.iter().enumerate() {
+        let at = place as usize;
         out[at] = values[i];
-        i += 1;
     }
-    out
 }

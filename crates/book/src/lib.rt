@@ -2,18 +2,18 @@
 #![tactic(auto)]
 
 ghost use Rattle.std.specs.Prelude.{◌≡◌};
-ghost use Rattle.laws.specs.Lists.{same};
-ghost use Rattle.book.specs.Book.{is_live, is_buy, listed, empty_order, empty_fill};
+ghost use Rattle.book.specs.Book.{is_live, listed};
 
 use credit_math::MAX_ORDERS;
 
 pub mod claims;
 pub mod clear;
+mod gathered;
 
 // The most fills of a session.
 pub const MAX_FILLS: usize = 24;
 
-#[derive(Clone, Copy, Drop)]
+#[derive(Clone, Copy, Debug, Default, PartialEq, Eq)]
 pub struct Order {
     pub owner: [u8; 32],
     // Buy 0, Sell 1.
@@ -32,7 +32,7 @@ pub struct Order {
     pub investor_id: [u8; 16],
 }
 
-#[derive(Clone, Copy, Drop)]
+#[derive(Clone, Copy, Debug, Default, PartialEq, Eq)]
 pub struct Fill {
     pub buyer: [u8; 32],
     pub seller: [u8; 32],
@@ -43,7 +43,7 @@ pub struct Fill {
 }
 
 // What a session is opened with.
-#[derive(Clone, Copy, Drop)]
+#[derive(Clone, Copy, Debug, Default, PartialEq, Eq)]
 pub struct Params {
     pub reveal_end: i64,
     pub rofr_window: i64,
@@ -56,7 +56,7 @@ pub struct Params {
 }
 
 // What the mark and the market give: numbers that stay on the chain otherwise.
-#[derive(Clone, Copy, Drop)]
+#[derive(Clone, Copy, Debug, Default, PartialEq, Eq)]
 pub struct Given {
     pub mark: bool,
     pub reserve: u64,
@@ -67,7 +67,7 @@ pub struct Given {
 }
 
 // An order as a session file lists it.
-#[derive(Clone, Copy, Drop)]
+#[derive(Clone, Copy, Debug, Default, PartialEq, Eq)]
 pub struct Row {
     pub owner: [u8; 32],
     pub side: u8,
@@ -77,11 +77,11 @@ pub struct Row {
     pub qty: u64,
 }
 
-impl Order {
-    // An order not yet screened, with no lot.
-    pub fn listed(row: Row) -> Self
-        ensures { result ≡ listed row }
-    {
+impl From<Row> for Order {
+    ghost from_gives = { λ row order. order ≡ listed row };
+
+    // Not yet screened, with no lot.
+    fn from(row: Row) -> Order {
         let owner = row.owner;
         Order {
             owner,
@@ -97,60 +97,14 @@ impl Order {
             investor_id: [0; 16],
         }
     }
+}
 
-    // An unused place of the order array.
-    pub fn empty() -> Self
-        ensures { result ≡ empty_order }
-    {
-        Order::listed(Row {
-            owner: [0; 32],
-            side: 0,
-            escrowed: 0,
-            revealed: false,
-            limit: 0,
-            qty: 0,
-        })
-    }
-
+impl Order {
     // Takes part in the clear.
-    pub fn is_live(self) -> bool
-        ensures { result ≡ is_live self }
+    #[tactic(auto, unfolding(crate::specs::Book::is_live))]
+    pub fn is_live(&self) -> bool
+        ensures { result ≡ is_live self.now }
     {
-        if self.revealed {
-            if self.screened {
-                return self.eligible;
-            }
-            return false;
-        }
-        false
+        self.revealed && self.screened && self.eligible
     }
-}
-
-impl Fill {
-    // An unused place of the fill array.
-    pub fn empty() -> Self
-        ensures { result ≡ empty_fill }
-    {
-        Fill {
-            buyer: [0; 32],
-            seller: [0; 32],
-            qty: 0,
-            rofr: false,
-            settled: false,
-        }
-    }
-}
-
-// Whether two wallets are the same.
-pub fn same_key(a: [u8; 32], b: [u8; 32]) -> bool
-    ensures { result ≡ same a b }
-{
-    a == b
-}
-
-// Whether two investor ids are the same.
-pub fn same_id(a: [u8; 16], b: [u8; 16]) -> bool
-    ensures { result ≡ same a b }
-{
-    a == b
 }

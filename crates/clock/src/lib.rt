@@ -2,7 +2,7 @@
 #![tactic(auto)]
 
 ghost use Rattle.std.specs.Prelude.{◌≡◌, ◌+ℤ◌};
-ghost use Rattle.std.specs.Int.Signed.{lt_z, le_z};
+ghost use Rattle.std.specs.Int.Signed.{lt_z};
 ghost use Rattle.clock.specs.Clock.{sum_fits};
 
 // Whether a + b is a signed 64-bit number.
@@ -30,16 +30,4 @@ pub fn sum_before(a: i64, b: i64, t: i64) -> bool
         Some(end) => end < t,
         None => a < 0,
     }
-}
-
-pub fn before(a: i64, b: i64) -> bool
-    ensures { result ≡ lt_z a b }
-{
-    a < b
-}
-
-pub fn not_before(a: i64, b: i64) -> bool
-    ensures { result ≡ le_z b a }
-{
-    b <= a
 }

@@ -1,5 +1,6 @@
 -- What is paid at the clear is in escrow: after `SI` every order is covered, no call changes a row, and a lot is at most what the row
 -- allows. Assumes nothing.
+use Rattle.std.specs.Prelude.{Option, Some}
 use mathlib.Core.Path.{◌≡◌, sym, subst}
 use mathlib.Core.Logic.{⊎_elim}
 use mathlib.Core.Bool.{true, false, ◌&&◌}
@@ -20,8 +21,6 @@ use Rattle.book.specs.declared.Params.{Params}
 use Rattle.book.specs.declared.Given.{Given}
 use Rattle.escrow.specs.Cover.{gross}
 use Rattle.escrow.specs.Claims.{Covers}
-use Rattle.escrow.specs.declared.Cover.{Cover}
-use Rattle.escrow.specs.declared.Cover.TheVariants.{Decimals}
 use Rattle.escrow.proofs.Covers.{gross_none}
 use Rattle.auction_engine.specs.declared.Session.{Session}
 use Rattle.auction_engine.specs.Session.{order_at, fresh}
@@ -54,16 +53,16 @@ module _ (decimals : ℕ) where
   unfolding fresh
   fresh_opens p g = record { places = length-replicate max_orders empty_order; all = λ i l. absurd (omega (arith, l)) }
 
-  order_opens : (s : Session) (row : Row) → order_refusal s (Decimals decimals) row ≡ 0 → Opens s → Opens (with_order s row)
+  order_opens : (s : Session) (row : Row) → order_refusal s (Some decimals) row ≡ 0 → Opens s → Opens (with_order s row)
   unfolding with_order
   order_opens s row e o =
-      let room : s.order_count < length s.orders = omega (arith, order_room s (Decimals decimals) row e, o.places) in
+      let room : s.order_count < length s.orders = omega (arith, order_room s (Some decimals) row e, o.places) in
       record { places = rw length-set o.places; all = all_more s row (Covers decimals) room (accepted_covered s decimals row e) o.all }
 
-  opened_covered : (o : Opening) → o.cover ≡ Decimals decimals → AllCovered (opened o)
+  opened_covered : (o : Opening) → o.cover ≡ Some decimals → AllCovered (opened o)
   opened_covered o is =
-      (rows_keep Opens (Decimals decimals) order_opens (fresh o.params o.given) o.rows
-      (subst (λ (cover : Cover). RowsAccepted (fresh o.params o.given) cover o.rows) is o.rows_accepted)
+      (rows_keep Opens (Some decimals) order_opens (fresh o.params o.given) o.rows
+      (subst (λ (cover : Option ℕ). RowsAccepted (fresh o.params o.given) cover o.rows) is o.rows_accepted)
       (fresh_opens o.params o.given)).all
 
 -- ---- a lot

@@ -15,11 +15,10 @@ use Rattle.laws.proofs.Checking.{then_zero}
 use Rattle.credit_math.specs.Limits.{max_orders}
 use Rattle.credit_math.specs.Error.{no_cross}
 use Rattle.book.specs.Book.{no_order, is_live, is_buy}
-use Rattle.book.specs.Clear.{live_orders, failed_by, refused_with, too_few_reveals, mark_unavailable, math_overflow}
+use Rattle.book.specs.Clear.{live_orders, failed_by, refused_with, too_few_reveals, mark_unavailable, math_overflow, Outcome}
 use Rattle.book.specs.Claims as book
 use Rattle.book.specs.Claims.{takes_part, has_price, ClearIsRight}
 use Rattle.book.specs.declared.Order.{Order}
-use Rattle.book.specs.declared.clear.Outcome.{Outcome}
 use Rattle.book.proofs.Theorems.{at_price, right_lots, clear_is_right}
 use Rattle.events.specs.Events.{packed}
 use Rattle.auction_engine.specs.declared.Session.{Session}

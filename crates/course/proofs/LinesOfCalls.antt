@@ -12,9 +12,8 @@ use lib.ListN.{length}
 use Rattle.laws.specs.Lists.{same}
 use Rattle.laws.proofs.Tests.{tested, lt_or_le}
 use Rattle.book.specs.Book.{no_wallet}
-use Rattle.book.specs.Clear.{live_orders}
+use Rattle.book.specs.Clear.{live_orders, Outcome}
 use Rattle.book.specs.Claims as book
-use Rattle.book.specs.declared.clear.Outcome.{Outcome}
 use Rattle.book.proofs.Theorems.{clear_is_right}
 use Rattle.events.specs.declared.Event.{Event}
 use Rattle.events.specs.declared.Event.TheVariants.{OrderScreened, SessionFailed, ClearingPrint, PhaseChanged}

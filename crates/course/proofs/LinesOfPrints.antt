@@ -10,8 +10,7 @@ use lib.Dec.{eqb}
 use lib.IntN.{ℤ}
 use lib.ListN.{length}
 use Rattle.book.specs.declared.Given.{Given}
-use Rattle.disclosure.specs.Disclosure.{shown, disclose_answer}
-use Rattle.disclosure.specs.declared.Disclosed.{Disclosed}
+use Rattle.disclosure.specs.Disclosure.{shown, disclose_answer, Disclosed}
 use Rattle.events.specs.declared.Print.{Print}
 use Rattle.auction_engine.specs.declared.Session.{Session}
 use Rattle.auction_engine.specs.Session.{printed}

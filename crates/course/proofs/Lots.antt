@@ -12,13 +12,12 @@ use Rattle.laws.specs.Sums.{sum_below, only}
 use Rattle.laws.proofs.Sums.{sum_same}
 use Rattle.credit_math.specs.Limits.{max_orders}
 use Rattle.book.specs.Book.{order_in, buy_side, sell_side, is_buy}
-use Rattle.book.specs.Clear.{live_orders, compute_clear, failed_by, too_few_reveals, mark_unavailable}
+use Rattle.book.specs.Clear.{live_orders, compute_clear, failed_by, too_few_reveals, mark_unavailable, Outcome}
 use Rattle.book.specs.Claims.{Clearable, side_sum, Priced, RightClear, no_crossing, too_large, has_price}
 use Rattle.book.proofs.Theorems.{clear_is_right}
 use Rattle.book.specs.declared.Order.{Order}
 use Rattle.book.specs.declared.Params.{Params}
 use Rattle.book.specs.declared.Given.{Given}
-use Rattle.book.specs.declared.clear.Outcome.{Outcome}
 
 -- a clear that does not fail has enough live orders, and a mark unless the sale is forced
 not_failed : (a b : Bool) (o : Outcome) → (cond a (failed_by too_few_reveals) (cond b (failed_by mark_unavailable) o)).failed ≡ 0 → (a ≡ false) × (b ≡ false)

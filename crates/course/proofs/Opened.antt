@@ -1,4 +1,5 @@
 -- From an opening to the clear: no call touches fills, counts or owners before it, and no two orders have one owner. Assumes nothing.
+use Rattle.std.specs.Prelude.{Option}
 use mathlib.Core.Path.{◌≡◌, refl, sym, ap, ◌∙◌}
 use mathlib.Core.Bool.{Bool, true, false, cond, false≢true}
 use mathlib.Core.List.{List, [], ◌∷◌}
@@ -21,7 +22,6 @@ use Rattle.book.specs.declared.Order.{Order}
 use Rattle.book.specs.declared.Row.{Row}
 use Rattle.book.specs.declared.Params.{Params}
 use Rattle.book.specs.declared.Given.{Given}
-use Rattle.escrow.specs.declared.Cover.{Cover}
 use Rattle.auction_engine.specs.declared.Session.{Session}
 use Rattle.auction_engine.specs.Session.{order_at, fresh, at_phase, allocating, issuer_rofr, settling}
 use Rattle.auction_engine.specs.Call.{Call, screen, clear, allocate, exercise, close, settle, skip, finish, expire, admits}
@@ -59,7 +59,7 @@ fresh_unfilled p g =
       owners = λ i j l. absurd (omega (arith, l));
     }
 
-module _ (s : Session) (cover : Cover) (row : Row) (e : order_refusal s cover row ≡ 0) (U : Unfilled s) where
+module _ (s : Session) (cover : Option ℕ) (row : Row) (e : order_refusal s cover row ≡ 0) (U : Unfilled s) where
   -- the checks 7 and 8
   checks : (s.order_count < max_orders) × (some (λ i. same (order_at s i).owner row.owner) s.order_count ≡ false)
   unfolding order_refusal

@@ -1,4 +1,5 @@
 -- Every session that an opening and calls come to passes the checks 9 and 4 of any call. Assumes nothing.
+use Rattle.std.specs.Prelude.{Option}
 use mathlib.Core.Path.{◌≡◌, refl, sym, ap, ◌∙◌, subst}
 use mathlib.Core.Logic.{⊎_elim}
 use mathlib.Core.Bool.{Bool, true, false, cond}
@@ -20,7 +21,6 @@ use Rattle.book.specs.declared.Params.{Params}
 use Rattle.book.specs.declared.Given.{Given}
 use Rattle.book.specs.declared.Row.{Row}
 use Rattle.escrow.specs.Cover.{decimals_refusal}
-use Rattle.escrow.specs.declared.Cover.{Cover}
 use Rattle.auction_engine.specs.declared.Session.{Session}
 use Rattle.auction_engine.specs.Session.{order_at, fresh, at_phase, issuer_rofr, settling}
 use Rattle.auction_engine.specs.Call.{Call, screen, clear, allocate, exercise, close, settle, skip, finish, expire, limits_refusal, fields_refusal}
@@ -52,7 +52,7 @@ record Opens (s : Session) : Type 0 where
   places : length s.orders ≡ max_orders
 
 -- an accepted header
-header_opens : (p : Params) (g : Given) (cover : Cover) → header_refusal p g cover ≡ 0 → Opens (fresh p g)
+header_opens : (p : Params) (g : Given) (cover : Option ℕ) → header_refusal p g cover ≡ 0 → Opens (fresh p g)
 unfolding header_refusal limits_refusal fields_refusal fresh every
 header_opens p g cover e =
     let forced = check_zero _ 3 _ e in
@@ -68,7 +68,7 @@ header_opens p g cover e =
     }
 
 -- an accepted order: its side is in range, and there was a place for it
-module _ (s : Session) (cover : Cover) (row : Row) (e : order_refusal s cover row ≡ 0) (o : Opens s) where
+module _ (s : Session) (cover : Option ℕ) (row : Row) (e : order_refusal s cover row ≡ 0) (o : Opens s) where
   row_side : row.side ≤ 1
   unfolding order_refusal row_refusal
   row_side = leb-true row.side 1 (check_zero _ 3 _ (then_zero (row_refusal cover row) _ e).0).0

@@ -12,10 +12,9 @@ use Rattle.laws.specs.Checks.{unless, ◌then◌}
 use Rattle.laws.proofs.Tests.{tested, lt_or_le}
 use Rattle.laws.proofs.Members.{has_member}
 use Rattle.laws.proofs.Checking.{then_pass, then_in, unless_in, check_in}
-use Rattle.book.specs.Clear.{live_orders, math_overflow}
+use Rattle.book.specs.Clear.{live_orders, math_overflow, Outcome}
 use Rattle.book.specs.Claims as book
 use Rattle.book.specs.Claims.{ClearIsRight}
-use Rattle.book.specs.declared.clear.Outcome.{Outcome}
 use Rattle.book.proofs.Theorems.{clear_is_right}
 use Rattle.auction_engine.specs.declared.Session.{Session}
 use Rattle.auction_engine.specs.Call.{Call, screen, clear, allocate, exercise, close, settle, skip, finish, expire, expire_kind, limits_refusal, fields_refusal, arguments_refusal}

@@ -1,4 +1,5 @@
 -- What a file listed of an order stays: neither an order more nor a call changes an order's row, and no call how many orders there are. Assumes nothing.
+use Rattle.std.specs.Prelude.{Option}
 use mathlib.Core.Path.{◌≡◌, refl, sym, ap, ◌∙◌, subst}
 use mathlib.Core.Logic.{◌≢◌, ⊎_elim}
 use mathlib.Core.Bool.{Bool, true, false, cond}
@@ -14,7 +15,6 @@ use Rattle.laws.proofs.Lists.{unseen}
 use Rattle.book.specs.Book.{no_order, order_in, listed}
 use Rattle.book.specs.declared.Order.{Order}
 use Rattle.book.specs.declared.Row.{Row}
-use Rattle.escrow.specs.declared.Cover.{Cover}
 use Rattle.auction_engine.specs.declared.Session.{Session}
 use Rattle.auction_engine.specs.Session.{order_at, at_phase}
 use Rattle.auction_engine.specs.Call.{Call, screen, clear, allocate, exercise, close, settle, skip, finish, expire}
@@ -70,7 +70,7 @@ module _ (s : Session) (row : Row) where
       go (no q) = subst Q (sym (old_row i q)) (old i (omega arith))
 
 -- what each accepted order keeps, all of them keep
-pub rows_keep : (P : Session → Type 0) (cover : Cover) → ((s : Session) (row : Row) → order_refusal s cover row ≡ 0 → P s → P (with_order s row))
+pub rows_keep : (P : Session → Type 0) (cover : Option ℕ) → ((s : Session) (row : Row) → order_refusal s cover row ≡ 0 → P s → P (with_order s row))
     → (s : Session) (rows : List Row) → RowsAccepted s cover rows → P s → P (with_rows s rows)
 rows_keep P cover step s [] a p = p
 rows_keep P cover step s (row ∷ rows) a p = rows_keep P cover step (with_order s row) rows a.1 (step s row a.0 p)

@@ -1,10 +1,9 @@
 -- Case L of document 01, by definition: what each call answers. proofs/CaseL.antt proves it.
-use Rattle.std.specs.Prelude.{◌≡◌, true, false, List, [], ◌∷◌, ℕ, pos, replicate}
+use Rattle.std.specs.Prelude.{◌≡◌, true, false, List, [], ◌∷◌, ℕ, pos, replicate, None}
 use Rattle.book.specs.Book.{no_wallet}
 use Rattle.book.specs.declared.Params.{Params}
 use Rattle.book.specs.declared.Given.{Given}
 use Rattle.book.specs.declared.Row.{Row}
-use Rattle.escrow.specs.declared.Cover.TheVariants.{Unasked}
 use Rattle.events.specs.declared.Event.{Event}
 use Rattle.events.specs.declared.Event.TheVariants as event
 use Rattle.auction_engine.specs.declared.Session.{Session}
@@ -81,6 +80,6 @@ lines =
 
 -- the header and the orders are accepted, and so is each call, with its lines
 pub record CaseL : Type 0 where
-  pub header_accepted : header_refusal params given Unasked ≡ 0
-  pub rows_accepted : RowsAccepted (fresh params given) Unasked rows
+  pub header_accepted : header_refusal params given None ≡ 0
+  pub rows_accepted : RowsAccepted (fresh params given) None rows
   pub course : Accepts (with_rows (fresh params given) rows) calls lines

@@ -1,8 +1,7 @@
 -- What escrows cover once a session that `SI` opened is cleared: document 02, ticket 1. proofs/Covered.antt proves it.
-use Rattle.std.specs.Prelude.{◌≡◌, ℕ, ◌≤◌, ◌<◌}
+use Rattle.std.specs.Prelude.{◌≡◌, ℕ, ◌≤◌, ◌<◌, Some}
 use Rattle.book.specs.Book.{buy_side, sell_side}
 use Rattle.escrow.specs.Cover.{gross}
-use Rattle.escrow.specs.declared.Cover.TheVariants.{Decimals}
 use Rattle.auction_engine.specs.declared.Session.{Session}
 use Rattle.auction_engine.specs.Session.{order_at}
 use Rattle.course.specs.Demand3.{JustCleared, lot_of}
@@ -13,4 +12,4 @@ pub record LotsAreCovered {s : Session} (j : JustCleared s) (decimals : ℕ) : T
   pub sell : (i : ℕ) → i < s.order_count → (order_at s i).side ≡ sell_side → lot_of j i ≤ (order_at s i).escrowed
 
 abbrev pub CoveredAtClear : Type 0
-CoveredAtClear = (s : Session) (j : JustCleared s) (decimals : ℕ) → j.opening.cover ≡ Decimals decimals → LotsAreCovered j decimals
+CoveredAtClear = (s : Session) (j : JustCleared s) (decimals : ℕ) → j.opening.cover ≡ Some decimals → LotsAreCovered j decimals

@@ -6,8 +6,7 @@ use mathlib.Core.List.{List, [], ◌++◌, map}
 use Prim.Native.Nat.{ℕ, ◌+◌, ◌-◌, ◌<◌, ◌≤◌}
 use native.Mathlib.Omega.{arith}
 use lib.Dec.{ltb}
-use lib.ListN
-use lib.ListN.{length, get_or, replicate, length-append, length-map, length-replicate, get_or-append}
+use lib.ListN.{length, get_or, replicate, take, length-append, length-map, length-take, length-replicate, get_or-append}
 use lib.Seq.{ext_get_or, get_or-append-add}
 use borrow.Author.Tests.{eq-eqb, ne_eqb}
 use Rattle.laws.specs.Lists.{Member}
@@ -17,12 +16,11 @@ use Rattle.std.proofs.lemmas.List.{get_or-map}
 use Rattle.laws.proofs.Lists.{get_or_nothing}
 use Rattle.laws.proofs.Sort.{sort_members, dedup_members, length_sort}
 use Rattle.laws.proofs.Ordered.{length_dedup}
-use Rattle.wide.specs.Value.{value}
 use Rattle.credit_math.specs.Limits.{max_orders}
 use Rattle.credit_math.specs.Price.{buy, sell, price_refusal}
 use Rattle.credit_math.specs.SideTotals.{Table, table_of, distinct_limits, column, totals_at, side_totals}
-use Rattle.credit_math.specs.Carried.{no_wide}
-use Rattle.credit_math.specs.declared.side_totals.SideTotals.{SideTotals}
+use Rattle.credit_math.specs.declared.table.SideTotals.{SideTotals}
+use Rattle.credit_math.specs.declared.table.Totals.{Totals}
 
 -- the rows: the orders' limits, and no more of them
 pub distinct_members : (limits : List ℕ) (p : ℕ) → Member p (distinct_limits limits) ↔ Member p limits
@@ -32,6 +30,7 @@ distinct_members limits p =
     let sorted = sort_members ltb p limits in
     (λ h. sorted.0 (once.0 h), λ h. once.1 (sorted.1 h))
 
+-- no more rows than limits
 pub distinct_few : (limits : List ℕ) → length (distinct_limits limits) ≤ length limits
 unfolding distinct_limits
 distinct_few limits = omega (arith, length_dedup (sort ltb limits), length_sort ltb limits)
@@ -42,11 +41,12 @@ module _ (f : ℕ → ℕ) (rows : List ℕ) where
   unfolding column
   length_column few = simp (length-append, length-map, length-replicate) (omega arith)
 
-  -- beside each row what f says, and zeros behind the last
+  -- beside each row what f says
   pub column_at : (k : ℕ) → k < length rows → get_or (column f rows) k 0 ≡ f (get_or rows k 0)
   unfolding column
   column_at k h = get_or-append (map f rows) (replicate (max_orders - length rows) 0) 0 k (rw length-map h) ∙ get_or-map f rows k 0 0 h
 
+  -- zeros behind the last row
   pub column_past : (k : ℕ) → length rows ≤ k → get_or (column f rows) k 0 ≡ 0
   unfolding column
   column_past k h =
@@ -61,30 +61,51 @@ module _ (f : ℕ → ℕ) (rows : List ℕ) where
       ext_get_or 0 l (column f rows) (whole ∙ sym (length_column few))
       (λ k _. ⊎_elim (λ (h : k < length rows). there k h ∙ sym (column_at k h)) (λ (h : length rows ≤ k). past k h ∙ sym (column_past k h)) (lt_or_le k (length rows)))
 
--- the table of orders that are not refused has the rows of their limits, and of those that are none
 module _ (is_buy : List Bool) (limits qtys : List ℕ) where
+  -- the table of orders that are not refused has the rows of their limits
   pub table_accepted : price_refusal is_buy limits qtys ≡ 0 → side_totals is_buy limits qtys ≡ totals_at is_buy limits qtys (distinct_limits limits)
   unfolding side_totals
   table_accepted z = rw (eq-eqb (price_refusal is_buy limits qtys) 0 z)
 
+  -- the table of orders that are refused has no row
   pub table_refused : price_refusal is_buy limits qtys ≢ 0 → side_totals is_buy limits qtys ≡ totals_at is_buy limits qtys []
   unfolding side_totals
   table_refused ne = rw (ne_eqb (price_refusal is_buy limits qtys) 0 ne)
 
--- t is the table of the orders, with these rows
+-- t is the table of the orders, with these rows: what stands in one of them
 module _ (is_buy : List Bool) (limits qtys rows : List ℕ) (t : SideTotals) (is : table_of t ≡ totals_at is_buy limits qtys rows) where
+  -- as many rows as are counted
   pub table_rows : t.count ≡ length rows
   unfolding totals_at
   table_rows = ap (λ (x : Table). x.count) is
 
-  pub table_limit : (k : ℕ) → k < length rows → get_or t.limits k 0 ≡ get_or rows k 0
+  -- its array is full
+  table_whole : length t.rows ≡ max_orders
   unfolding totals_at
-  table_limit k h = ap (λ (x : Table). get_or x.limits k 0) is ∙ column_at (λ p. p) rows k h
+  table_whole =
+      sym (length-map t.rows (λ r. r.limit)) ∙ ap (λ (x : Table). length x.limits) is
+      ∙ length_column (λ p. p) rows (omega (arith, t.few, table_rows))
 
-  pub table_buy : (k : ℕ) → k < length rows → value (get_or t.buys k no_wide) ≡ buy is_buy limits qtys (get_or rows k 0)
-  unfolding totals_at value
-  table_buy k h = sym (ListN.get_or-map value t.buys k no_wide) ∙ ap (λ (x : Table). get_or x.buys k 0) is ∙ column_at (buy is_buy limits qtys) rows k h
+  -- the rows that the search walks over
+  pub rows_taken : length (take t.count t.rows) ≡ length rows
+  rows_taken = omega (arith, t.few, table_rows, table_whole, length-take t.count t.rows)
 
-  pub table_sell : (k : ℕ) → k < length rows → value (get_or t.sells k no_wide) ≡ sell is_buy limits qtys (get_or rows k 0)
-  unfolding totals_at value
-  table_sell k h = sym (ListN.get_or-map value t.sells k no_wide) ∙ ap (λ (x : Table). get_or x.sells k 0) is ∙ column_at (sell is_buy limits qtys) rows k h
+  module _ (k : ℕ) (h : k < length rows) (d : Totals) where
+    -- a row stands in the array
+    inside : k < length t.rows
+    inside = omega (arith, t.few, table_rows, table_whole)
+
+    -- its limit
+    pub table_limit : (get_or t.rows k d).limit ≡ get_or rows k 0
+    unfolding totals_at
+    table_limit = sym (get_or-map (λ r. r.limit) t.rows k d 0 inside) ∙ ap (λ (x : Table). get_or x.limits k 0) is ∙ column_at (λ p. p) rows k h
+
+    -- its buys
+    pub table_buy : (get_or t.rows k d).buys ≡ buy is_buy limits qtys (get_or rows k 0)
+    unfolding totals_at
+    table_buy = sym (get_or-map (λ r. r.buys) t.rows k d 0 inside) ∙ ap (λ (x : Table). get_or x.buys k 0) is ∙ column_at (buy is_buy limits qtys) rows k h
+
+    -- its sells
+    pub table_sell : (get_or t.rows k d).sells ≡ sell is_buy limits qtys (get_or rows k 0)
+    unfolding totals_at
+    table_sell = sym (get_or-map (λ r. r.sells) t.rows k d 0 inside) ∙ ap (λ (x : Table). get_or x.sells k 0) is ∙ column_at (sell is_buy limits qtys) rows k h

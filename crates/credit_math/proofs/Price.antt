@@ -7,20 +7,15 @@ use mathlib.Core.List.{List}
 use Prim.Native.Nat.{ℕ}
 use native.Mathlib.Nat.{le_antisymm, lt_trans, le_refl}
 use lib.Dec.{ltb, leb}
-use lib.ListN.{length}
-use borrow.Author.Tests.{lt-ltb, le-ltb, ltb-true, ltb-false, le-leb, leb-true, eq-eqb, eqb-true}
+use borrow.Author.Tests.{lt-ltb, le-ltb, ltb-true, ltb-false, le-leb, leb-true, eq-eqb}
 use Rattle.laws.specs.Lists.{Member, keep}
 use Rattle.laws.specs.Sort.{sort}
-use Rattle.laws.specs.Checks.{unless, first_of}
 use Rattle.laws.proofs.Tests.{both}
-use Rattle.laws.proofs.Checking.{unless_zero, check_zero}
 use Rattle.laws.proofs.Lists.{keep_members}
 use Rattle.laws.proofs.Sort.{sort_members, dedup_members}
 use Rattle.laws.proofs.Lex.{lex_same, lex_trans, lex_total}
 use Rattle.wide.specs.Value.{apart}
-use Rattle.credit_math.specs.Limits.{max_orders}
 use Rattle.credit_math.specs.Price.{Best, none, walk, executed, imbalance, executes, better, candidates, clear_price, priced, price_refusal, find_uniform_clear_price}
-use Rattle.credit_math.specs.Steps.{Book}
 use Rattle.credit_math.specs.Claims.{Executes}
 use Rattle.credit_math.proofs.Best.{BestOf, Counted, best_of, walk_best, best_one}
 
@@ -102,24 +97,6 @@ module _ (is_buy : List Bool) (limits qtys : List ℕ) (reference : ℕ) where
     any_walk rows same =
         best_one B better_irrefl better_trans better_total (Executes is_buy limits qtys reserve)
         (walk C B none rows) (clear_price is_buy limits qtys reserve reference) (any_walk_best rows same) clear_price_best
-
--- lists of one length, of at most max_orders places, are not refused
-pub book_accepted : {is_buy : List Bool} {limits qtys : List ℕ} → Book is_buy limits qtys → price_refusal is_buy limits qtys ≡ 0
-unfolding price_refusal unless first_of
-book_accepted {is_buy} {limits} {qtys} b =
-    simp (le-leb (length is_buy) max_orders b.few, eq-eqb (length limits) (length is_buy) b.limits_too, eq-eqb (length qtys) (length is_buy) b.qtys_too)
-
--- and the other way round
-pub accepted_book : {is_buy : List Bool} {limits qtys : List ℕ} → price_refusal is_buy limits qtys ≡ 0 → Book is_buy limits qtys
-unfolding price_refusal
-accepted_book {is_buy} {limits} {qtys} z =
-    let first = check_zero _ _ _ z in
-    let second = check_zero _ _ _ first.1 in
-    record {
-      few = leb-true (length is_buy) max_orders first.0;
-      limits_too = eqb-true (length limits) (length is_buy) second.0;
-      qtys_too = eqb-true (length qtys) (length is_buy) (unless_zero _ _ second.1);
-    }
 
 module _ (is_buy : List Bool) (limits qtys : List ℕ) (reserve reference : ℕ) where
   -- where nothing is refused, the answer is the price with its executed quantity

@@ -1,29 +1,29 @@
 -- The loop of the search follows the walk over the table's limits, and what it keeps is what is answered.
 -- Assumes nothing.
 use mathlib.Core.Path.{◌≡◌, refl, sym, ◌∙◌, ap, ap₂}
-use mathlib.Core.Logic.{⊎_elim}
-use mathlib.Core.Bool.{Bool, true, false, cond}
+use mathlib.Core.Bool.{Bool}
 use mathlib.Core.List.{List}
-use Prim.Native.Nat.{ℕ, ◌+◌, ◌<◌, ◌≤◌, min}
+use Prim.Native.Nat.{ℕ, ◌+◌, ◌/◌, ◌%◌, ◌^◌, ◌<◌, ◌≤◌, min}
+use native.Mathlib.Nat.{min_comm}
 use native.Mathlib.Numerals.{add-one}
 use native.Mathlib.Omega.{arith}
-use lib.Dec.{ltb, leb, eqb}
-use lib.ListN.{length, get_or, drop, drop_of_length-le}
-use lib.Seq.{drop-cons}
-use borrow.Author.Tests.{le-leb, lt-leb}
-use Rattle.laws.proofs.Tests.{tested, clash, above_zero}
-use Rattle.wide.specs.Value.{value, apart}
+use lib.Dec.{ltb}
+use lib.ListN.{length, get_or, take, drop, length-take, drop_of_length-le}
+use lib.Seq.{drop-cons, get_or-take}
+use Rattle.std.proofs.Common.{Ordering}
+use Rattle.std.specs.Ordering.{nat_cmp, ordering_then, is_lt}
+use Rattle.std.specs.Prelude.{Option, Some, None}
+use Rattle.std.proofs.lemmas.Bool.Decides.{nat_tests}
+use Rattle.laws.specs.Lex.{lex}
+use Rattle.wide.specs.Value.{apart}
 use Rattle.credit_math.specs.declared.allocation.Quote.{Quote}
-use Rattle.credit_math.specs.declared.allocation.Kept.{Kept}
-use Rattle.credit_math.specs.declared.side_totals.SideTotals.{SideTotals}
-use Rattle.credit_math.specs.Limits.{max_orders}
-use Rattle.credit_math.specs.Error.{no_cross}
-use Rattle.credit_math.specs.Price.{Best, at, improves, step, walk, buy, sell, executed, imbalance, executes, better, clear_price, Found, failed, cross, priced, price_refusal, find_uniform_clear_price}
+use Rattle.credit_math.specs.declared.table.SideTotals.{SideTotals}
+use Rattle.credit_math.specs.declared.table.Totals.{Totals}
+use Rattle.credit_math.specs.Price.{Best, step, walk, buy, sell, executed, imbalance, executes, better, clear_price}
 use Rattle.credit_math.specs.SideTotals.{table_of, distinct_limits, totals_at}
-use Rattle.credit_math.specs.Steps.{Book, Quoted, QuoteOf, AllQuoted, best, ahead, keeping, chosen, after, Searched}
-use Rattle.credit_math.specs.Carried.{no_wide}
-use Rattle.credit_math.proofs.Columns.{distinct_members, distinct_few, table_rows, table_limit, table_buy, table_sell}
-use Rattle.credit_math.proofs.Price.{counts, any_walk, accepted_book, no_refusal}
+use Rattle.credit_math.specs.Steps.{Quoted, QuoteOf, AllQuoted, best, ahead, after, Searched}
+use Rattle.credit_math.proofs.Columns.{distinct_members, rows_taken, table_limit, table_buy, table_sell}
+use Rattle.credit_math.proofs.Price.{counts, any_walk}
 
 module _ (C : ℕ → Bool) (B : ℕ → ℕ → Bool) (b b' : Best) (l : List ℕ) (i : ℕ) where
   walk_next : i < length l → b' ≡ step C B b (get_or l i 0) → walk C B b' (drop (i + 1) l) ≡ walk C B b (drop i l)
@@ -32,35 +32,40 @@ module _ (C : ℕ → Bool) (B : ℕ → ℕ → Bool) (b b' : Best) (l : List �
   walk_end : length l ≤ i → walk C B b (drop i l) ≡ b
   walk_end h = ap (walk C B b) (drop_of_length-le l h)
 
--- after a quote: below the reserve it is passed over, and so is one that executes nothing
-module _ (k : Kept) (q : Quote) (reserve reference : ℕ) where
-  pub after_below : q.price < reserve → k ≡ after k q reserve reference
-  unfolding after
-  after_below h = simp (lt-leb reserve q.price h)
+-- the derived order of numbers of two words
+abbrev pub words_cmp : ℕ → ℕ → Ordering
+words_cmp x y = ordering_then (nat_cmp (x / 2 ^ 64) (y / 2 ^ 64)) (nat_cmp (x % 2 ^ 64) (y % 2 ^ 64))
 
-  pub after_none : reserve ≤ q.price → eqb (value q.executed) 0 ≡ true → k ≡ after k q reserve reference
-  unfolding after
-  after_none h z = simp (le-leb reserve q.price h, above_zero (value q.executed), z)
+-- a comparison before another one
+lt_then : (x y : ℕ) (o : Ordering) → is_lt (ordering_then (nat_cmp x y) o) ≡ lex x y (is_lt o)
+unfolding lex
+lt_then x y o = grind (arith, nat_tests)
 
-  -- else it is the first, better than the best so far, or not better
-  module _ (h : reserve ≤ q.price) (z : eqb (value q.executed) 0 ≡ false) where
-    looked : after k q reserve reference ≡ chosen k q reference
-    unfolding after
-    looked = simp (le-leb reserve q.price h, above_zero (value q.executed), z)
+lt_words : (x y : ℕ) (o : Ordering) → is_lt (ordering_then (words_cmp x y) o) ≡ lex x y (is_lt o)
+unfolding lex
+lt_words x y o = grind (arith, nat_tests)
 
-    pub after_first : k.found ≡ false → keeping q ≡ after k q reserve reference
-    after_first e = rw (looked, e)
+lt_last : (x y : ℕ) → is_lt (nat_cmp x y) ≡ ltb x y
+lt_last x y = grind (arith, nat_tests)
 
-    pub after_better : k.found ≡ true → ahead q k.quote reference ≡ true → keeping q ≡ after k q reserve reference
-    after_better e t = rw (looked, e, t)
+-- the derived order of quotes: the lower is ahead
+pub lower_is_ahead : (a b : Quote)
+    → is_lt (ordering_then (words_cmp b.executed.0 a.executed.0) (ordering_then (words_cmp a.imbalance b.imbalance) (ordering_then (nat_cmp a.distance b.distance) (nat_cmp a.price b.price))))
+    ≡ ahead a b
+unfolding ahead
+lower_is_ahead a b = simp (lt_words, lt_then, lt_last)
 
-    pub after_not_better : k.found ≡ true → ahead q k.quote reference ≡ false → k ≡ after k q reserve reference
-    after_not_better e t = rw (looked, e, t)
-
--- a quote made of a price's totals holds its figures
-quoted_of : {is_buy : List Bool} {limits qtys : List ℕ} {p b s : ℕ} {q : Quote} → QuoteOf p b s q → b ≡ buy is_buy limits qtys p → s ≡ sell is_buy limits qtys p → Quoted is_buy limits qtys q
+-- a quote made of a row of the table holds its price's figures
+pub quoted_of : {is_buy : List Bool} {limits qtys : List ℕ} {row : Totals} {p reference : ℕ} {q : Quote} → QuoteOf row reference q
+    → row.limit ≡ p → row.buys ≡ buy is_buy limits qtys p → row.sells ≡ sell is_buy limits qtys p → Quoted is_buy limits qtys reference q
 unfolding executed imbalance
-quoted_of f bought sold = record { volume = rw f.price_is (f.volume ∙ ap₂ min bought sold); gap = rw f.price_is (f.gap ∙ ap₂ apart sold bought) }
+quoted_of {is_buy} {limits} {qtys} {row} {p} {reference} f here bought sold =
+    let price = f.price_is ∙ here in
+    record {
+      volume = rw price (f.volume ∙ ap₂ min sold bought ∙ min_comm (sell is_buy limits qtys p) (buy is_buy limits qtys p));
+      gap = rw price (f.gap ∙ ap₂ apart sold bought);
+      distance = rw price (f.near ∙ ap (λ (x : ℕ). apart x reference) here);
+    }
 
 module _ (is_buy : List Bool) (limits qtys : List ℕ) (reserve reference : ℕ) where
   -- what the walk counts and how it compares, in short
@@ -70,53 +75,47 @@ module _ (is_buy : List Bool) (limits qtys : List ℕ) (reserve reference : ℕ)
   abbrev B : ℕ → ℕ → Bool
   B = better is_buy limits qtys reference
 
-  -- what is kept is the walk's best, with its figures
-  abbrev Follows : Kept → Best → Type 0
-  Follows k b = (best k ≡ b) × AllQuoted is_buy limits qtys k
+  -- the quote that is kept holds its figures, and what is kept is the walk's best
+  abbrev Kept : Option Quote → Type 0
+  Kept = AllQuoted is_buy limits qtys reference
 
-  module _ (q : Quote) (quoted : Quoted is_buy limits qtys q) where
+  abbrev Follows : Option Quote → Best → Type 0
+  Follows k b = (best k ≡ b) × Kept k
+
+  module _ (q : Quote) (quoted : Quoted is_buy limits qtys reference q) where
     -- the tests on the quotes' figures are those on the prices
-    same_order : (o : Quote) → Quoted is_buy limits qtys o → B q.price o.price ≡ ahead q o reference
+    same_order : (o : Quote) → Quoted is_buy limits qtys reference o → B q.price o.price ≡ ahead q o
     unfolding better ahead
-    same_order o a = rw (quoted.volume, quoted.gap, a.volume, a.gap)
+    same_order o a = rw (quoted.volume, quoted.gap, quoted.distance, a.volume, a.gap, a.distance)
 
-    same_count : executes is_buy limits qtys q.price ≡ ltb 0 (value q.executed)
-    unfolding executes
-    same_count = rw quoted.volume
+    -- what is kept is the walk's best
+    stepped : (k : Option Quote) → Kept k → best (after k q reserve) ≡ step C B (best k) q.price
+    unfolding after executes
+    stepped None a = grind (arith, quoted.volume)
+    stepped (Some o) a = grind (arith, quoted.volume, same_order o (a o refl))
 
-    chosen_step : (k : Kept) (found : Bool) → k.found ≡ found → AllQuoted is_buy limits qtys k
-        → Follows (chosen k q reference) (cond (improves C B (best k) q.price) (at q.price) (best k))
-    chosen_step k false e a = rw e (refl, λ _. quoted)
-    chosen_step k true e a =
-        ⊎_elim
-        (λ (t : ahead q k.quote reference ≡ true). rw (e, same_order k.quote (a e), t) (refl, λ _. quoted))
-        (λ (t : ahead q k.quote reference ≡ false). rw (e, same_order k.quote (a e), t) (refl, λ _. a e))
-        (tested (ahead q k.quote reference))
-
-    after_step : (k : Kept) → AllQuoted is_buy limits qtys k → Follows (after k q reserve reference) (step C B (best k) q.price)
+    -- and holds its figures
+    kept : (k : Option Quote) → Kept k → Kept (after k q reserve)
     unfolding after
-    after_step k a =
-        rw same_count
-        (⊎_elim
-        (λ (t : leb reserve q.price ≡ true).
-        ⊎_elim (λ (u : ltb 0 (value q.executed) ≡ true). rw (t, u) (chosen_step k k.found refl a)) (λ (u : ltb 0 (value q.executed) ≡ false). rw (t, u) (refl, a))
-        (tested (ltb 0 (value q.executed))))
-        (λ (t : leb reserve q.price ≡ false). rw t (refl, a))
-        (tested (leb reserve q.price)))
+    kept None a x is = grind (arith, is, quoted)
+    kept (Some o) a x is = grind (arith, is, quoted, a o refl)
+
+    pub after_step : (k : Option Quote) → Kept k → Follows (after k q reserve) (step C B (best k) q.price)
+    after_step k a = (stepped k a, kept k a)
 
   -- with the best so far, the walk over the rows from i on ends with the price
-  pub record Left (k : Kept) (rows : List ℕ) (i : ℕ) : Type 0 where
+  pub record Left (k : Option Quote) (rows : List ℕ) (i : ℕ) : Type 0 where
     pub ends : walk C B (best k) (drop i rows) ≡ clear_price is_buy limits qtys reserve reference
-    pub quoted : AllQuoted is_buy limits qtys k
+    pub quoted : Kept k
 
-  left_all : {k : Kept} → k.found ≡ false → Left k (distinct_limits limits) 0
-  left_all {k} e = record {
-    ends = rw e (any_walk is_buy limits qtys reference reserve (distinct_limits limits) (distinct_members limits));
-    quoted = λ f. absurd (clash k.found f e);
+  left_all : Left None (distinct_limits limits) 0
+  left_all = record {
+    ends = any_walk is_buy limits qtys reference reserve (distinct_limits limits) (distinct_members limits);
+    quoted = λ q e. cc;
   }
 
-  module _ {k : Kept} {rows : List ℕ} {i : ℕ} (l : Left k rows i) where
-    left_next : {k' : Kept} {q : Quote} → i < length rows → q.price ≡ get_or rows i 0 → Quoted is_buy limits qtys q → k' ≡ after k q reserve reference → Left k' rows (i + 1)
+  module _ {k : Option Quote} {rows : List ℕ} {i : ℕ} (l : Left k rows i) where
+    left_next : {k' : Option Quote} {q : Quote} → i < length rows → q.price ≡ get_or rows i 0 → Quoted is_buy limits qtys reference q → k' ≡ after k q reserve → Left k' rows (i + 1)
     left_next {k'} {q} h p f e =
         let next = after_step q f k l.quoted in
         record { ends = walk_next C B (best k) (best k') rows i h (ap best e ∙ next.0 ∙ ap (step C B (best k)) p) ∙ l.ends; quoted = rw e next.1 }
@@ -125,46 +124,27 @@ module _ (is_buy : List Bool) (limits qtys : List ℕ) (reserve reference : ℕ)
     left_none h = (sym (walk_end C B (best k) (best k) rows i h) ∙ l.ends, l.quoted)
 
 -- the search at row i of the table, whatever orders it is of
-pub record Searching (t : SideTotals) (reserve reference : ℕ) (k : Kept) (i : ℕ) : Type 0 where
+pub record Searching (t : SideTotals) (reserve reference : ℕ) (k : Option Quote) (i : ℕ) : Type 0 where
   pub left : (is_buy : List Bool) (limits qtys : List ℕ) → table_of t ≡ totals_at is_buy limits qtys (distinct_limits limits)
       → Left is_buy limits qtys reserve reference k (distinct_limits limits) i
 
-module _ {t : SideTotals} {reserve reference : ℕ} {k : Kept} where
-  pub searching : k.found ≡ false → Searching t reserve reference k 0
-  searching e = record { left = λ is_buy limits qtys _. left_all is_buy limits qtys reserve reference e }
+module _ {t : SideTotals} {reserve reference : ℕ} where
+  pub searching : Searching t reserve reference None 0
+  searching = record { left = λ is_buy limits qtys _. left_all is_buy limits qtys reserve reference }
 
-  pub searching_more : {k' : Kept} {q : Quote} {i : ℕ} → Searching t reserve reference k i → i < t.count
-      → QuoteOf (get_or t.limits i 0) (value (get_or t.buys i no_wide)) (value (get_or t.sells i no_wide)) q → k' ≡ after k q reserve reference
-      → Searching t reserve reference k' (i + 1)
-  searching_more {k'} {q} {i} s h f e = record {
-    left = λ is_buy limits qtys is.
-        let rows : List ℕ = distinct_limits limits in
-        let here : i < length rows = omega (arith, table_rows is_buy limits qtys rows t is) in
-        let made : QuoteOf (get_or rows i 0) (value (get_or t.buys i no_wide)) (value (get_or t.sells i no_wide)) q = rw (table_limit is_buy limits qtys rows t is i here) at f in
-        let quoted = quoted_of made (table_buy is_buy limits qtys rows t is i here) (table_sell is_buy limits qtys rows t is i here) in
-        left_next is_buy limits qtys reserve reference (s.left is_buy limits qtys is) here made.price_is quoted e;
-  }
+  module _ {k : Option Quote} {i : ℕ} (s : Searching t reserve reference k i) where
+    pub searching_more : {k' : Option Quote} {q : Quote} (row : Totals) → i < length (take t.count t.rows) → row ≡ get_or (take t.count t.rows) i row
+        → QuoteOf row reference q → k' ≡ after k q reserve → Searching t reserve reference k' (i + 1)
+    searching_more row h e f g = record {
+      left = λ is_buy limits qtys is.
+          let rows : List ℕ = distinct_limits limits in
+          let there : i < length rows = omega (arith, rows_taken is_buy limits qtys rows t is) in
+          let stands : get_or t.rows i row ≡ row = sym (get_or-take t.count t.rows i row (omega (arith, length-take t.count t.rows))) ∙ sym e in
+          let limit = rw stands at (table_limit is_buy limits qtys rows t is i there row) in
+          left_next is_buy limits qtys reserve reference (s.left is_buy limits qtys is) there (f.price_is ∙ limit)
+          (quoted_of f limit (rw stands at (table_buy is_buy limits qtys rows t is i there row)) (rw stands at (table_sell is_buy limits qtys rows t is i there row))) g;
+    }
 
-  pub searched : {i : ℕ} → Searching t reserve reference k i → t.count ≤ i → Searched t reserve reference k
-  searched s h is_buy limits qtys is =
-      left_none is_buy limits qtys reserve reference (s.left is_buy limits qtys is) (omega (arith, table_rows is_buy limits qtys (distinct_limits limits) t is))
-
--- the table of lists that are not refused has at most max_orders rows
-pub few_rows : (is_buy : List Bool) (limits qtys : List ℕ) (t : SideTotals) → price_refusal is_buy limits qtys ≡ 0
-    → table_of t ≡ totals_at is_buy limits qtys (distinct_limits limits) → t.count ≤ max_orders
-few_rows is_buy limits qtys t z is =
-    let b : Book is_buy limits qtys = accepted_book z in omega (arith, table_rows is_buy limits qtys (distinct_limits limits) t is, distinct_few limits)
-
--- what is answered of what was kept
-abbrev pub answer : Kept → Found
-answer k = cond k.found (cross k.quote.price (value k.quote.executed)) (failed no_cross)
-
-module _ (is_buy : List Bool) (limits qtys : List ℕ) (reserve reference : ℕ) where
-  answer_best : (k : Kept) (found : Bool) → k.found ≡ found → AllQuoted is_buy limits qtys k → answer k ≡ priced (executed is_buy limits qtys) (best k)
-  answer_best k false e a = rw e
-  answer_best k true e a = rw (e, (a e).volume)
-
-  -- of lists that are not refused, it is the source's answer
-  pub answered : (k : Kept) → price_refusal is_buy limits qtys ≡ 0 → Follows is_buy limits qtys reserve reference k (clear_price is_buy limits qtys reserve reference)
-      → answer k ≡ find_uniform_clear_price is_buy limits qtys reserve reference
-  answered k z h = answer_best k k.found refl h.1 ∙ ap (priced (executed is_buy limits qtys)) h.0 ∙ sym (no_refusal is_buy limits qtys reserve reference z)
+    pub searched : length (take t.count t.rows) ≤ i → Searched t reserve reference k
+    searched h is_buy limits qtys is =
+        left_none is_buy limits qtys reserve reference (s.left is_buy limits qtys is) (omega (arith, rows_taken is_buy limits qtys (distinct_limits limits) t is))

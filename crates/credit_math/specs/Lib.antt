@@ -8,3 +8,4 @@ pub mod ProRata
 pub mod Steps
 pub mod Carried
 pub mod Claims
+pub mod Ranks

@@ -1,15 +1,16 @@
 -- `find_uniform_clear_price`. The orders stand in three lists, by place: whether one buys, its limit and its quantity.
-use Rattle.std.specs.Prelude.{Bool, true, false, if◌then◌else◌, not, ◌&&◌, List, [], ◌∷◌, ℕ, min, nat_lt, nat_le, ◌==◌, length, slice_index, slice_index_or}
+use Rattle.std.specs.Prelude.{Bool, true, false, if◌then◌else◌, not, ◌&&◌, List, [], ◌∷◌, ℕ, min, nat_lt, nat_le, ◌==◌, length, slice_index, slice_index_or, Option, Some, None, Result, Ok, Err}
 use Rattle.laws.specs.Sums.{sum_below, only}
 use Rattle.laws.specs.Lists.{keep}
 use Rattle.laws.specs.Sort.{sort, dedup}
 use Rattle.laws.specs.Lex.{lex}
 use Rattle.laws.specs.Checks.{unless, ◌then◌}
-use Rattle.wide.specs.Value.{value, apart}
+use Rattle.wide.specs.Value.{apart}
+use Rattle.refusals.specs.Number.{number}
+use Rattle.refusals.specs.declared.Refusal.{Refusal}
 use Rattle.credit_math.specs.Limits.{max_orders}
 use Rattle.credit_math.specs.Error.{bad_length, no_cross}
-use Rattle.credit_math.specs.declared.allocation.Clearing.{Clearing}
-use Rattle.credit_math.specs.declared.allocation.Clearing.TheVariants.{Refused, NoCross, Cross}
+use Rattle.credit_math.specs.declared.allocation.ClearResult.{ClearResult}
 
 -- the best price so far, if any
 pub data Best : Type 0 where
@@ -70,10 +71,10 @@ pub data Found : Type 0 where
   cross : (price volume : ℕ) → Found
 
 -- the declared answer: this paper's number and values for each of its cases
-abbrev pub found : Clearing → Found
-found (Refused n) = refused n
-found NoCross = failed no_cross
-found (Cross c) = cross c.clear_price (value c.executed_qty)
+abbrev pub found : Result (Option ClearResult) Refusal → Found
+found (Err r) = refused (number r)
+found (Ok None) = failed no_cross
+found (Ok (Some c)) = cross c.clear_price c.executed_qty
 
 -- the price with its executed quantity
 abbrev pub priced : (executed : ℕ → ℕ) → Best → Found

@@ -1,10 +1,9 @@
 -- The table of side totals that the price search reads (document 02, ticket 2).
 use Rattle.std.specs.Prelude.{Bool, if◌then◌else◌, List, [], ◌++◌, map, ℕ, ◌-◌, nat_lt, ◌==◌, length, replicate}
 use Rattle.laws.specs.Sort.{sort, dedup}
-use Rattle.wide.specs.Value.{value}
 use Rattle.credit_math.specs.Limits.{max_orders}
 use Rattle.credit_math.specs.Price.{buy, sell, price_refusal}
-use Rattle.credit_math.specs.declared.side_totals.SideTotals.{SideTotals}
+use Rattle.credit_math.specs.declared.table.SideTotals.{SideTotals}
 
 -- a table in numbers: how many rows it has, and its columns
 pub record Table : Type 0 where
@@ -13,9 +12,9 @@ pub record Table : Type 0 where
   pub buys : List ℕ
   pub sells : List ℕ
 
--- the declared table: each total is the number that its two words hold
+-- the declared table
 abbrev pub table_of : SideTotals → Table
-table_of t = record { count = t.count; limits = t.limits; buys = map value t.buys; sells = map value t.sells }
+table_of t = record { count = t.count; limits = map (λ r. r.limit) t.rows; buys = map (λ r. r.buys) t.rows; sells = map (λ r. r.sells) t.rows }
 
 -- 'exactly the orders' limits, ascending, each once': of all orders handed in
 unfoldable pub distinct_limits : List ℕ → List ℕ

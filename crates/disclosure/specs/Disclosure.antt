@@ -1,7 +1,16 @@
 -- `band` and `disclose`.
 use Rattle.std.specs.Prelude.{if◌then◌else◌, ℕ, ◌*◌, ◌/◌, max, nat_le, ◌==◌}
-use Rattle.disclosure.specs.declared.Banded.{Banded}
-use Rattle.disclosure.specs.declared.Disclosed.{Disclosed}
+
+-- the number of a refusal or 0, and the price in its band
+pub record Banded : Type 0 where
+  pub refusal : ℕ
+  pub price : ℕ
+
+-- the number of a refusal or 0, and what is disclosed
+pub record Disclosed : Type 0 where
+  pub refusal : ℕ
+  pub price : ℕ
+  pub volume : ℕ
 
 -- 'band_bps 8 (at most 10,000)'
 abbrev pub max_band : ℕ

@@ -1,2 +1,3 @@
 -- What a print discloses.
 pub mod Disclosure
+pub mod Answers

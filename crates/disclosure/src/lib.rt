@@ -1,46 +1,70 @@
 // What a print discloses.
 #![tactic(auto)]
 
-ghost use Rattle.std.specs.Prelude.{◌≡◌, ◌+◌, ◌*◌, ◌/◌, ◌%◌, ◌<◌, ◌≤◌, max};
-ghost use Rattle.disclosure.specs.Disclosure.{max_band, banded, band_answer, shown, disclose_answer};
+ghost use Rattle.std.specs.Prelude.{◌≡◌, if◌then◌else◌, ◌*◌, ◌/◌, ◌≤◌, nat_le, Ok, Err};
+ghost use Rattle.refusals.specs.declared.Refusal.TheVariants.{OverLimit};
+ghost use Rattle.disclosure.specs.Disclosure.{max_band, banded, band_answer, disclose_answer};
+ghost use Rattle.disclosure.specs.Answers.{banded_of, disclosed_of, Shows, Reads};
+
+use refusals::Refusal;
 
 // A band above this is refused: its width could be 0 or pass 64 bits.
 pub const MAX_BAND: u64 = 10_000;
 
-#[derive(Clone, Copy, Drop)]
-pub struct Banded {
-    pub refusal: u8,
-    pub price: u64,
+// What is disclosed of a print.
+#[derive(Clone, Copy, Debug, PartialEq, Eq)]
+pub enum Policy {
+    Public,
+    Banded,
+    AggregateOnly,
+    DataRoom,
 }
 
-#[derive(Clone, Copy, Drop)]
+impl TryFrom<u8> for Policy {
+    type Error = Refusal;
+
+    ghost try_from_gives = { Reads };
+
+    fn try_from(policy: u8) -> Result<Policy, Refusal> {
+        match policy {
+            0 => Ok(Policy::Public),
+            1 => Ok(Policy::Banded),
+            2 => Ok(Policy::AggregateOnly),
+            3 => Ok(Policy::DataRoom),
+            _ => Err(Refusal::BadField),
+        }
+    }
+}
+
+// The figures of a print: 0 for what is withheld.
+#[derive(Clone, Copy, Debug, PartialEq, Eq)]
 pub struct Disclosed {
-    pub refusal: u8,
     pub price: u64,
     pub volume: u64,
 }
 
 // The price rounded down to its band.
-pub fn band(price: u64, band_bps: u64) -> Banded
-    ensures { result ≡ band_answer price band_bps }
+#[tactic(auto, unfolding(crate::specs::Disclosure::band_answer))]
+pub fn band(price: u64, band_bps: u64) -> Result<u64, Refusal>
+    ensures { banded_of result ≡ band_answer price band_bps }
 {
-    if MAX_BAND < band_bps {
-        return Banded {
-            refusal: refusals::OVER_LIMIT,
-            price: 0,
-        };
-    }
-    Banded {
-        refusal: 0,
-        price: band_of(price, band_bps),
-    }
+    band_refusal(band_bps)?;
+    Ok(band_of(price, band_bps))
 }
 
+// 9 a band above the limit.
+fn band_refusal(band_bps: u64) -> Result<(), Refusal>
+    ensures { result ≡ (if nat_le band_bps max_band then Ok tt else Err OverLimit) }
+{
+    Refusal::OverLimit.unless(band_bps <= MAX_BAND)
+}
+
+#[tactic(auto, unfolding(crate::specs::Disclosure::banded, crate::specs::Disclosure::width))]
 fn band_of(price: u64, band_bps: u64) -> u64
     requires { band_bps ≤ max_band }
     ensures { result ≡ banded price band_bps }
 {
-    let width = at_least_one(part_of(price, band_bps));
+    let width = part_of(price, band_bps).max(1);
     price / width * width
 }
 
@@ -54,57 +78,32 @@ fn part_of(price: u64, band_bps: u64) -> u64
     a * band_bps + b * band_bps / 10000
 }
 
-fn at_least_one(x: u64) -> u64
-    ensures { result ≡ max x 1 }
+// What a policy discloses of a price and a volume.
+#[tactic(auto, unfolding(crate::specs::Disclosure::disclose_answer))]
+pub fn disclose(policy: u8, band_bps: u64, price: u64, volume: u64) -> Result<Disclosed, Refusal>
+    ensures { disclosed_of result ≡ disclose_answer policy band_bps price volume }
 {
-    if x == 0 { 1 } else { x }
-}
-
-// What a policy discloses of a price and a volume: 0 for what it withholds.
-pub fn disclose(policy: u8, band_bps: u64, price: u64, volume: u64) -> Disclosed
-    ensures { result ≡ disclose_answer policy band_bps price volume }
-{
-    if MAX_BAND < band_bps {
-        return withheld(refusals::OVER_LIMIT);
-    }
-    if 3 < policy {
-        return withheld(refusals::BAD_FIELD);
-    }
-    shown_of(policy, band_bps, price, volume)
-}
-
-// No figure, with the number that refuses one.
-fn withheld(refusal: u8) -> Disclosed
-    ensures { result ≡ record { refusal = refusal; price = 0; volume = 0 } }
-{
-    Disclosed {
-        refusal,
-        price: 0,
-        volume: 0,
-    }
+    band_refusal(band_bps)?;
+    let policy = Policy::try_from(policy)?;
+    Ok(shown(policy, band_bps, price, volume))
 }
 
 // By the policy: all; the price in its band; the volume alone; nothing.
-fn shown_of(policy: u8, band_bps: u64, price: u64, volume: u64) -> Disclosed
+#[tactic(auto, unfolding(crate::specs::Disclosure::shown))]
+fn shown(policy: Policy, band_bps: u64, price: u64, volume: u64) -> Disclosed
     requires { band_bps ≤ max_band }
-    ensures { result ≡ shown policy band_bps price volume }
+    ensures { Shows policy band_bps price volume result }
 {
     match policy {
-        0 => Disclosed {
-            refusal: 0,
-            price,
-            volume,
-        },
-        1 => Disclosed {
-            refusal: 0,
+        Policy::Public => Disclosed { price, volume },
+        Policy::Banded => Disclosed {
             price: band_of(price, band_bps),
             volume,
         },
-        2 => Disclosed {
-            refusal: 0,
+        Policy::AggregateOnly => Disclosed { price: 0, volume },
+        Policy::DataRoom => Disclosed {
             price: 0,
-            volume,
+            volume: 0,
         },
-        _ => withheld(0),
     }
 }

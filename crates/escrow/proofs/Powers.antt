@@ -1,17 +1,13 @@
 -- Laws of the powers of ten, and of an amount that is scaled down in steps. Assumes nothing.
 use mathlib.Core.Path.{◌≡◌, sym, ap, ◌∙◌}
-use Prim.Native.Nat.{ℕ, ◌+◌, ◌-◌, ◌*◌, ◌^◌, ◌≤◌, ◌<◌}
-use native.Mathlib.Nat.{div-one, mod-one, pow-suc, one-le-pow, pow-le-pow_right, lt_of_le_of_lt}
-use native.Mathlib.Numerals.{add-one}
+use Prim.Native.Nat.{ℕ, ◌-◌, ◌*◌, ◌^◌, ◌≤◌, ◌<◌}
+use native.Mathlib.Nat.{div-one, mod-one, one-le-pow, pow-le-pow_right, lt_of_le_of_lt}
 use native.Mathlib.Omega.{arith}
 use lib.Dec.{lit<}
 use lib.Pow.{pow-add}
 use Rattle.credit_math.specs.Rounding.{ceil_div}
 use Rattle.credit_math.proofs.Rounding.{ceil_whole, ceil_twice}
 use Rattle.escrow.specs.Cover.{max_decimals}
-
-pub ten_more : (i : ℕ) → 10 ^ i * 10 ≡ 10 ^ (i + 1)
-ten_more i = sym (ap (λ (k : ℕ). 10 ^ k) (add-one i) ∙ pow-suc 10 i)
 
 pub ten_positive : (i : ℕ) → 0 < 10 ^ i
 ten_positive i = one-le-pow i 10 (omega arith)

@@ -1,9 +1,8 @@
 -- What an accepted order's escrow covers: proofs/Covers.antt.
-use Rattle.std.specs.Prelude.{◌≡◌, true, ℕ, ◌≤◌}
+use Rattle.std.specs.Prelude.{◌≡◌, true, ℕ, ◌≤◌, Some}
 use Rattle.book.specs.Book.{buy_side, sell_side}
 use Rattle.book.specs.declared.Row.{Row}
 use Rattle.escrow.specs.Cover.{gross, cover_refusal}
-use Rattle.escrow.specs.declared.Cover.TheVariants.{Decimals}
 
 -- the escrow covers all that the order can ever pay: any lot of it at any price that its limit allows
 pub record Covers (decimals : ℕ) (row : Row) : Type 0 where
@@ -11,4 +10,4 @@ pub record Covers (decimals : ℕ) (row : Row) : Type 0 where
   pub sell : row.side ≡ sell_side → (lot : ℕ) → lot ≤ row.qty → lot ≤ row.escrowed
 
 abbrev pub NotRefusedCovers : Type 0
-NotRefusedCovers = (decimals : ℕ) (row : Row) → row.revealed ≡ true → cover_refusal (Decimals decimals) row ≡ 0 → Covers decimals row
+NotRefusedCovers = (decimals : ℕ) (row : Row) → row.revealed ≡ true → cover_refusal (Some decimals) row ≡ 0 → Covers decimals row

@@ -1,11 +1,9 @@
 -- 'Escrow cover when a file is read': document 02, ticket 1, and the source's `gross`.
-use Rattle.std.specs.Prelude.{Bool, if◌then◌else◌, not, ◌||◌, ℕ, ◌*◌, ◌^◌, nat_le, ◌==◌}
+use Rattle.std.specs.Prelude.{Bool, if◌then◌else◌, not, ◌||◌, ℕ, ◌*◌, ◌^◌, nat_le, ◌==◌, Option, None, Some}
 use Rattle.laws.specs.Checks.{unless}
 use Rattle.credit_math.specs.Rounding.{ceil_div}
 use Rattle.book.specs.Book.{buy_side}
 use Rattle.book.specs.declared.Row.{Row}
-use Rattle.escrow.specs.declared.Cover.{Cover}
-use Rattle.escrow.specs.declared.Cover.TheVariants.{Unasked, Decimals}
 
 -- `gross`: 'quantity × limit / 10^decimals, rounded up'
 unfoldable pub gross : (qty price decimals : ℕ) → ℕ
@@ -20,14 +18,14 @@ unfoldable pub covered : (decimals : ℕ) → Row → Bool
 covered decimals row = not row.revealed || nat_le (needed decimals row) row.escrowed
 
 -- 'An uncovered order gets 31'; after `SH` none is tested
-unfoldable pub cover_refusal : Cover → Row → ℕ
-cover_refusal Unasked row = 0
-cover_refusal (Decimals decimals) row = unless (covered decimals row) 31
+unfoldable pub cover_refusal : Option ℕ → Row → ℕ
+cover_refusal None row = 0
+cover_refusal (Some decimals) row = unless (covered decimals row) 31
 
 -- 'decimals, 0 to 19; other values get 4'
 abbrev pub max_decimals : ℕ
 max_decimals = 19
 
-unfoldable pub decimals_refusal : Cover → ℕ
-decimals_refusal Unasked = 0
-decimals_refusal (Decimals decimals) = unless (nat_le decimals max_decimals) 4
+unfoldable pub decimals_refusal : Option ℕ → ℕ
+decimals_refusal None = 0
+decimals_refusal (Some decimals) = unless (nat_le decimals max_decimals) 4

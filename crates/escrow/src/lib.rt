@@ -1,88 +1,75 @@
-// Escrow cover: whether an order's escrow pays for it, as the source's `reveal` asks.
+// Escrow cover: whether an order's escrow pays for it, as the source's `reveal` asks. What a header asks of the escrows in its file is `None` for `SH`, which
+// asks nothing, and `Some(decimals)` for `SI`: that they cover their orders, at so many decimals.
 #![tactic(auto)]
 
 ghost use Rattle.std.specs.Prelude.{◌≡◌, ◌^◌, ◌≤◌};
-ghost use Rattle.wide.specs.Value.{value};
+ghost use Rattle.refusals.specs.Number.{refusal_in};
 ghost use Rattle.escrow.specs.Cover.{max_decimals, gross, covered, decimals_refusal, cover_refusal};
 
 use book::Row;
-use laws::checks::unless;
+use refusals::Refusal;
 use wide::Wide;
 
-// What a header asks of the escrows in its file: `SH` nothing, `SI` that they cover their orders, at so many decimals.
-#[derive(Clone, Copy, Drop)]
-pub enum Cover {
-    Unasked,
-    Decimals(u8),
-}
+pub mod claims;
 
 // The most decimals that a header may name: 10 to this power still fits 64 bits.
 pub const MAX_DECIMALS: u8 = 19;
 
 // 4 decimals outside their values.
-pub fn decimals_refusal(cover: Cover) -> u8
-    ensures { result ≡ decimals_refusal cover }
+#[tactic(auto, unfolding(laws::specs::Checks::unless, crate::specs::Cover::decimals_refusal))]
+pub fn decimals_refusal(cover: Option<u8>) -> Result<(), Refusal>
+    ensures { refusal_in result ≡ decimals_refusal cover }
 {
     match cover {
-        Cover::Unasked => 0,
-        Cover::Decimals(decimals) => unless(decimals <= MAX_DECIMALS, refusals::BAD_FIELD),
+        None => Ok(()),
+        Some(decimals) => Refusal::BadField.unless(decimals <= MAX_DECIMALS),
     }
 }
 
 // 31 an order that its escrow does not cover.
-pub fn cover_refusal(cover: Cover, row: Row) -> u8
-    ensures { result ≡ cover_refusal cover row }
+#[tactic(auto, unfolding(laws::specs::Checks::unless, crate::specs::Cover::cover_refusal))]
+pub fn cover_refusal(cover: Option<u8>, row: &Row) -> Result<(), Refusal>
+    ensures { refusal_in result ≡ cover_refusal cover row.now }
 {
     match cover {
-        Cover::Unasked => 0,
-        Cover::Decimals(decimals) => unless(covered(decimals, row), refusals::EXCEEDS_ESCROW),
+        None => Ok(()),
+        Some(decimals) => Refusal::ExceedsEscrow.unless(covered(decimals, row)),
     }
 }
 
 // A buy's amount at its limit, or a sell's quantity, is at most the escrow. An unrevealed order has nothing to test.
-fn covered(decimals: u8, row: Row) -> bool
-    ensures { result ≡ covered decimals row }
+#[tactic(auto, unfolding(crate::specs::Cover::covered, crate::specs::Cover::needed))]
+fn covered(decimals: u8, row: &Row) -> bool
+    ensures { result ≡ covered decimals row.now }
 {
     if !row.revealed {
         return true;
     }
     if row.side == 0 {
-        let amount = gross(row.qty, row.limit, decimals);
-        return !wide::less(wide::of_word(row.escrowed), amount);
+        return gross(row.qty, row.limit, decimals) <= Wide::from(row.escrowed);
     }
     row.qty <= row.escrowed
 }
 
 // quantity × price / 10^decimals, rounded up, for any number of decimals: at most nineteen at a time, since rounding up twice is rounding up once.
+#[tactic(auto, unfolding(crate::specs::Cover::gross))]
 fn gross(qty: u64, price: u64, decimals: u8) -> Wide
-    ensures { value result ≡ gross qty price decimals }
+    ensures { result ≡ gross qty price decimals }
 {
-    let mut amount = wide::product(qty, price);
+    let mut amount = Wide::product(qty, price);
     let mut left = decimals;
     while 0 < left {
-        let some = if left < MAX_DECIMALS {
-            left
-        } else {
-            MAX_DECIMALS
-        };
-        amount = credit_math::ceil_div(amount, wide::of_word(scale(some)));
+        let some = left.min(MAX_DECIMALS);
+        amount = credit_math::ceil_div(amount, Wide::from(power_of_ten(some)));
         left -= some;
     }
     amount
 }
 
-// 10^decimals
-fn scale(decimals: u8) -> u64
+#[tactic(auto, using(crate::proofs::Powers::ten_fits))]
+fn power_of_ten(decimals: u8) -> u64
     requires { decimals ≤ max_decimals }
     ensures { result ≡ 10 ^ decimals }
 {
-    let mut power: u64 = 1;
-    let mut i = 0;
-    while i < decimals {
-        power = power * 10;
-        i += 1;
-    }
-    power
+    10u64.pow(u32::from(decimals))
 }
-
-pub mod claims;

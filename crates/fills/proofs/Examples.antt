@@ -6,6 +6,7 @@ use Rattle.laws.specs.Checks.{unless, first_of}
 use Rattle.fills.specs.FillCount.{lots_on, partial_sums, distinct, fill_count, fill_count_refusal, fill_count_answer}
 use Rattle.fills.specs.Examples.{All, examples}
 
+-- each example computes
 pub examples_hold : All examples
 unfolding every table keep has unless first_of lots_on partial_sums distinct fill_count fill_count_refusal fill_count_answer
 examples_hold = (refl, (refl, (refl, (refl, (refl, (refl, (refl, tt)))))))

@@ -3,4 +3,5 @@ pub mod Fills
 pub mod Places
 pub mod Bounds
 pub mod Hands
+pub mod Sides
 pub mod Examples

@@ -2,14 +2,8 @@
 use Rattle.std.specs.Prelude.{◌≡◌, if◌then◌else◌, List, [], ◌∷◌, ◌++◌, ℕ, ◌-◌, ◌≤◌, nat_lt, ◌==◌, length, slice_index, drop}
 use Rattle.laws.specs.Sums.{only}
 use Rattle.laws.specs.Lists.{table, keep}
-use Rattle.credit_math.specs.Limits.{max_orders}
 use Rattle.fills.specs.FillCount.{partial_sums, distinct}
-use Rattle.fills.specs.declared.Hand.{Hand}
-
--- lists that are not refused for their lengths
-pub record Even (lots sides : List ℕ) : Type 0 where
-  pub few : length lots ≤ max_orders
-  pub same : length sides ≡ length lots
+use Rattle.fills.specs.declared.lines.Hand.{Hand}
 
 -- lots above 0
 unfoldable pub nonzero : List ℕ → List ℕ

@@ -2,6 +2,7 @@
 // this crate is not passed while it is unproved.
 ghost use Rattle.fills.specs.Examples.{All, examples};
 
+#[tactic(auto, using(crate::proofs::Examples::examples_hold))]
 pub fn examples_hold()
     ensures { All examples }
 {}

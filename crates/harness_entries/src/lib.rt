@@ -1,19 +1,18 @@
 // Entries for the comparison with the source alone: the functions on parallel slices, one share and the test of one row, behind the C boundary.
 #![tactic(auto)]
 
-ghost use Rattle.std.specs.Prelude.{◌≡◌, length};
+ghost use Rattle.std.specs.Prelude.{◌≡◌, length, Some};
 ghost use Rattle.book.specs.Book.{no_wallet};
 ghost use Rattle.escrow.specs.Cover.{cover_refusal};
-ghost use Rattle.escrow.specs.declared.Cover.TheVariants.{Decimals};
 ghost use Rattle.credit_math.specs.Price.{price_refusal, find_uniform_clear_price};
 ghost use Rattle.credit_math.specs.SideTotals.{side_totals};
 ghost use Rattle.credit_math.specs.ProRata.{share, remainder, pro_rata_refusal, allocate_pro_rata};
 ghost use Rattle.order_slices.specs.Figures.{figures_of};
-ghost use Rattle.wide.specs.Value.{value, digits};
+ghost use Rattle.wide.specs.Value.{digits};
 ghost use Rattle.harness_entries.specs.Rows.{RowOf, RowSays};
 
 use book::Row;
-use escrow::Cover;
+use credit_math::table::Totals;
 use order_slices::Figures;
 use wide::Wide;
 
@@ -27,10 +26,9 @@ pub extern "C" fn entry_find_uniform_clear_price(
 ) -> Figures
     ensures { result ≡ figures_of (find_uniform_clear_price is_buy.now limits.now qtys.now reserve reference) }
 {
-    let answer = credit_math::allocation::find_uniform_clear_price(
+    order_slices::figures_of(credit_math::allocation::find_uniform_clear_price(
         is_buy, limits, qtys, reserve, reference,
-    );
-    order_slices::figures_of(answer)
+    ))
 }
 
 #[unsafe(no_mangle)]
@@ -40,15 +38,15 @@ pub extern "C" fn entry_allocate_pro_rata(
     qtys: &[u64],
     out: &mut [u64],
 ) -> u8
-    ensures { (result ≡ pro_rata_refusal ids.now qtys.now (length out.old) total)
-        × (out.new ≡ allocate_pro_rata ids.now qtys.now total out.old) }
+    ensures refusal { result ≡ pro_rata_refusal ids.now qtys.now (length out.old) total }
+    ensures lots { out.new ≡ allocate_pro_rata ids.now qtys.now total out.old }
 {
-    credit_math::allocation::allocate_pro_rata(total, ids, qtys, out)
+    refusals::number_of(credit_math::allocation::allocate_pro_rata(total, ids, qtys, out))
 }
 
 // A share and its remainder, each in two words.
 #[repr(C)]
-#[derive(Clone, Copy, Drop)]
+#[derive(Clone, Copy, Debug, PartialEq, Eq)]
 pub struct ShareWords {
     pub quotient_hi: u64,
     pub quotient_lo: u64,
@@ -61,22 +59,21 @@ pub extern "C" fn entry_floor_share(total: u64, qty: u64, sum_hi: u64, sum_lo: u
     ensures { (digits 64 result.quotient_hi result.quotient_lo ≡ share total (digits 64 sum_hi sum_lo) qty)
         × (digits 64 result.remainder_hi result.remainder_lo ≡ remainder total (digits 64 sum_hi sum_lo) qty) }
 {
-    let sum_qty = Wide {
-        hi: sum_hi,
-        lo: sum_lo,
-    };
+    let sum_qty = Wide::of_words(sum_hi, sum_lo);
     let part = credit_math::allocation::floor_share(total, qty, sum_qty);
+    let (quotient_hi, quotient_lo) = part.quotient.words();
+    let (remainder_hi, remainder_lo) = part.rest.words();
     ShareWords {
-        quotient_hi: part.quotient.hi,
-        quotient_lo: part.quotient.lo,
-        remainder_hi: part.remainder.hi,
-        remainder_lo: part.remainder.lo,
+        quotient_hi,
+        quotient_lo,
+        remainder_hi,
+        remainder_lo,
     }
 }
 
 // A row of the table of side totals, with the refusal and the number of rows: past the last row zeros.
 #[repr(C)]
-#[derive(Clone, Copy, Drop)]
+#[derive(Clone, Copy, Debug, PartialEq, Eq)]
 pub struct TotalsRow {
     pub refusal: u8,
     pub count: usize,
@@ -97,28 +94,26 @@ pub extern "C" fn entry_side_totals(
     ensures { RowOf (price_refusal is_buy.now limits.now qtys.now)
         (side_totals is_buy.now limits.now qtys.now) row result }
 {
-    let tabled = credit_math::side_totals::side_totals(is_buy, limits, qtys);
-    let table = tabled.table;
-    let none = wide::of_word(0);
-    if row < credit_math::MAX_ORDERS {
-        let buy = table.buys[row];
-        let sell = table.sells[row];
-        return totals_row(tabled.refusal, table.count, table.limits[row], buy, sell);
+    match credit_math::side_totals::side_totals(is_buy, limits, qtys) {
+        Err(refusal) => totals_row(refusal.number(), 0, Totals::default()),
+        Ok(table) if row < credit_math::MAX_ORDERS => totals_row(0, table.count, table.rows[row]),
+        Ok(table) => totals_row(0, table.count, Totals::default()),
     }
-    totals_row(tabled.refusal, table.count, 0, none, none)
 }
 
-fn totals_row(refusal: u8, count: usize, limit: u64, buy: Wide, sell: Wide) -> TotalsRow
-    ensures { RowSays refusal count limit (value buy) (value sell) result }
+fn totals_row(refusal: u8, count: usize, row: Totals) -> TotalsRow
+    ensures { RowSays refusal count row.limit row.buys row.sells result }
 {
+    let (buy_hi, buy_lo) = row.buys.words();
+    let (sell_hi, sell_lo) = row.sells.words();
     TotalsRow {
         refusal,
         count,
-        limit,
-        buy_hi: buy.hi,
-        buy_lo: buy.lo,
-        sell_hi: sell.hi,
-        sell_lo: sell.lo,
+        limit: row.limit,
+        buy_hi,
+        buy_lo,
+        sell_hi,
+        sell_lo,
     }
 }
 
@@ -132,7 +127,7 @@ pub extern "C" fn entry_cover_refusal(
     limit: u64,
     qty: u64,
 ) -> u8
-    ensures { result ≡ cover_refusal (Decimals decimals) (record { owner = no_wallet; side = side; escrowed = escrowed; revealed = revealed; limit = limit; qty = qty }) }
+    ensures { result ≡ cover_refusal (Some decimals) (record { owner = no_wallet; side = side; escrowed = escrowed; revealed = revealed; limit = limit; qty = qty }) }
 {
     let row = Row {
         owner: [0; 32],
@@ -142,6 +137,5 @@ pub extern "C" fn entry_cover_refusal(
         limit,
         qty,
     };
-    let cover = Cover::Decimals(decimals);
-    escrow::cover_refusal(cover, row)
+    refusals::number_of(escrow::cover_refusal(Some(decimals), &row))
 }

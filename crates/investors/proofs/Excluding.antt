@@ -1,60 +1,25 @@
--- The checks across an investor's orders, as the code comes to them: a count above the limit is read as the limit. Assumes nothing.
-use mathlib.Core.Path.{◌≡◌, sym, ◌∙◌, ap}
-use mathlib.Core.Bool.{Bool, true, false, cond, not, ◌&&◌}
-use mathlib.Core.List.{List}
-use Prim.Native.Nat.{ℕ, ◌+◌, ◌*◌, ◌^◌, ◌≤◌, min}
-use native.Mathlib.Nat.{min-eq_left, min-le_right}
-use lib.Dec.{ltb, eqb, lit≤}
-use borrow.Author.Tests.{ne_eqb}
+-- The checks over the orders counted are those over all, read up to the limit. Assumes nothing.
+use Rattle.std.proofs.Common.{◌≡◌, ℕ, ◌+◌, min, not, ◌&&◌, ◌==◌, List, length, take, ap, arith}
+use Rattle.std.proofs.lemmas.List.{get_or-take, length-take-le}
 use Rattle.laws.specs.Sums.{sum_below, only}
 use Rattle.laws.specs.Search.{some}
-use Rattle.wide.specs.Value.{modulus}
+use Rattle.laws.proofs.Sums.{sum_same}
+use Rattle.laws.proofs.Search.{some_same}
 use Rattle.credit_math.specs.Limits.{max_orders}
-use Rattle.book.specs.Book.{order_in, is_buy}
+use Rattle.book.specs.Book.{order_in, is_buy, no_order}
 use Rattle.book.specs.declared.Order.{Order}
-use Rattle.investors.specs.Exclusion.{is_other, self_trade, cash_of, investor_exclusion}
+use Rattle.investors.specs.Exclusion.{is_other, self_trade, cash_of}
 
--- the order's own escrow and those of all the orders fit two words
-pub escrows_fit : (max_orders + 1) * 2 ^ 64 ≤ modulus
-unfolding modulus
-escrows_fit = lit≤ tt
-
-module _ (orders : List Order) (n i : ℕ) (id : List ℕ) where
-  -- below the limit, a search and a sum over the first n places
-  pub self_trade_is : (side : ℕ) → n ≤ max_orders → side ≡ (order_in orders i).side → some (λ j. is_other orders n i id j && not (eqb (order_in orders j).side side)) n ≡ self_trade orders n i id
-  unfolding self_trade
-  self_trade_is side h e = rw (min-eq_left h, e)
-
-  pub cash_is : n ≤ max_orders → (order_in orders i).escrowed + sum_below (λ j. only (is_other orders n i id j && is_buy (order_in orders j)) (order_in orders j).escrowed) n ≡ cash_of orders n i id
-  unfolding cash_of
-  cash_is h = rw (min-eq_left h)
-
-  -- above it, those of the limit
-  self_trade_cut : self_trade orders (min n max_orders) i id ≡ self_trade orders n i id
+-- with the side and the escrow of the order itself
+module _ (orders : List Order) (n m i : ℕ) (id : List ℕ) (e : m ≡ min n max_orders) (h : length orders ≡ max_orders) (own : ℕ × ℕ) (o : own ≡ ((order_in orders i).side, (order_in orders i).escrowed)) where
+  -- the search for an order on the other side
+  pub self_trade_counted : some (λ j. is_other (take m orders) (length (take m orders)) i id j && not ((order_in (take m orders) j).side == own.0)) (length (take m orders))
+      ≡ self_trade orders n i id
   unfolding self_trade is_other
-  self_trade_cut = rw (min-eq_left (min-le_right n max_orders))
+  self_trade_counted = rw (length-take-le m orders (omega arith), ← e, o) (some_same _ _ m (λ j l. rw (get_or-take m orders j no_order l)))
 
-  cash_cut : cash_of orders (min n max_orders) i id ≡ cash_of orders n i id
+  -- the sum of the escrows
+  pub cash_counted : own.1 + sum_below (λ j. only (is_other (take m orders) (length (take m orders)) i id j && is_buy (order_in (take m orders) j)) (order_in (take m orders) j).escrowed) (length (take m orders))
+      ≡ cash_of orders n i id
   unfolding cash_of is_other
-  cash_cut = rw (min-eq_left (min-le_right n max_orders))
-
--- the exclusion, from the count m that is used and the self-trade t that is found
-module _ (orders : List Order) (n i : ℕ) (id : List ℕ) (cap m : ℕ) (cut : m ≡ min n max_orders) (t : Bool) (e : t ≡ self_trade orders m i id) where
-  trades : self_trade orders n i id ≡ t
-  trades = sym (e ∙ ap (λ k. self_trade orders k i id) cut ∙ self_trade_cut orders n i id)
-
-  pub excludes_self : t ≡ true → 7 ≡ investor_exclusion orders n i id cap
-  unfolding investor_exclusion
-  excludes_self h = rw (trades, h)
-
-  module _ (s : ℕ) (f : s ≡ (order_in orders i).side) (h : t ≡ false) where
-    pub excludes_sell : (s ≡ 0 → ⊥) → 0 ≡ investor_exclusion orders n i id cap
-    unfolding investor_exclusion
-    excludes_sell q = rw (trades, h, ← f, ne_eqb s 0 q)
-
-    -- for a buy, the cash v against the cap w
-    pub excludes_cap : s ≡ 0 → (v w : ℕ) (b : Bool) → v ≡ cash_of orders m i id → w ≡ cap → b ≡ ltb w v → cond b 8 0 ≡ investor_exclusion orders n i id cap
-    unfolding investor_exclusion
-    excludes_cap z v w b g k l =
-        let c : cash_of orders n i id ≡ v = sym (g ∙ ap (λ j. cash_of orders j i id) cut ∙ cash_cut orders n i id) in
-        rw (trades, h, ← f, z, c, ← k, l)
+  cash_counted = rw (length-take-le m orders (omega arith), ← e, o) (ap ((order_in orders i).escrowed +◌) (sum_same _ _ m (λ j l. rw (get_or-take m orders j no_order l))))

@@ -1,4 +1,6 @@
--- Laws of the checks across an investor's orders, of places and of the participants seen.
+-- Laws of the checks across an investor's orders, and of the participants seen.
 pub mod Excluding
-pub mod Placing
-pub mod Seen
+pub mod Fills
+pub mod FirstOrder
+pub mod Noting
+pub mod Skipping

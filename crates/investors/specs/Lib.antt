@@ -1,4 +1,4 @@
 -- Investors behind orders.
 pub mod Exclusion
+pub mod Excluded
 pub mod Participants
-pub mod Places

@@ -8,17 +8,15 @@ use Rattle.book.specs.Limits.{max_fills}
 use Rattle.book.specs.Book.{order_in, fill_in, no_investor}
 use Rattle.book.specs.declared.Order.{Order}
 use Rattle.book.specs.declared.Fill.{Fill}
+use Rattle.investors.specs.declared.seen.Participant.{Participant}
+use Rattle.investors.specs.declared.seen.Participant.TheVariants.{Investor, Wallet}
 
--- who traded
-pub data Participant : Type 0 where
-  investor : (id : List ℕ) → Participant
-  wallet : (key : List ℕ) → Participant
-
+-- who traded: an Investor by its id, or a wallet
 abbrev pub same_participant : Participant → Participant → Bool
-same_participant (investor a) (investor b) = same a b
-same_participant (investor a) (wallet b) = false
-same_participant (wallet a) (investor b) = false
-same_participant (wallet a) (wallet b) = same a b
+same_participant (Investor a) (Investor b) = same a b
+same_participant (Investor a) (Wallet b) = false
+same_participant (Wallet a) (Investor b) = false
+same_participant (Wallet a) (Wallet b) = same a b
 
 -- 'seen.contains(&p)'
 unfoldable pub contains : List Participant → Participant → Bool
@@ -41,8 +39,8 @@ module _ (orders : List Order) (n : ℕ) where
   unfoldable pub participant : (key : List ℕ) → Participant
   participant key =
       if nat_lt (first_order key) (min n max_orders) && not (same (order_in orders (first_order key)).investor_id no_investor)
-      then investor (order_in orders (first_order key)).investor_id
-      else wallet key
+      then Investor (order_in orders (first_order key)).investor_id
+      else Wallet key
 
   module _ (fills : List Fill) (skipped : ℕ) where
     -- those seen in the first m fills, buyer before seller

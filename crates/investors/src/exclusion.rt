@@ -1,142 +1,83 @@
 // `investor_exclusion`: the checks of an order against the other live orders of its investor.
-ghost use Rattle.std.specs.Prelude.{◌≡◌, true, false, not, ◌&&◌, ◌+◌, ◌<◌, ◌≤◌, ◌==◌};
-ghost use Rattle.laws.specs.Sums.{only};
+ghost use Rattle.std.specs.Prelude.{◌≡◌, not, ◌&&◌, ◌+◌, ◌≤◌, ◌==◌, length};
+ghost use Rattle.laws.specs.Sums.{sum_below, only};
+ghost use Rattle.laws.specs.Search.{some};
 ghost use Rattle.laws.specs.Lists.{same};
-ghost use Rattle.wide.specs.Value.{value};
 ghost use Rattle.credit_math.specs.Limits.{max_orders};
 ghost use Rattle.book.specs.Book.{order_in, is_live, is_buy, no_investor};
-ghost use Rattle.investors.specs.Exclusion.{self_trade, cash_of, investor_exclusion};
+ghost use Rattle.investors.specs.Exclusion.{is_other, investor_exclusion};
+ghost use Rattle.investors.specs.Excluded.{exclusion_in};
 
 use book::Order;
 use credit_math::MAX_ORDERS;
 use wide::Wide;
 
-pub const SELF_TRADE: u8 = 7;
-
-pub const INVESTOR_CAP_EXCEEDED: u8 = 8;
-
-// What an order itself brings to the checks.
-#[derive(Clone, Copy, Drop)]
-struct Own {
-    side: u8,
-    escrowed: u64,
+// Why the investor's other orders exclude an order.
+#[derive(Clone, Copy, Debug, PartialEq, Eq)]
+pub enum Exclusion {
+    SelfTrade = 7,
+    InvestorCapExceeded = 8,
 }
 
-// The exclusion of order `index`, whose investor is `id`; 0 where there is none. A count above the limit is read as the limit.
+// The exclusion of order `index`, whose investor is `id`. A count above the limit is read as the limit.
 pub fn investor_exclusion(
-    orders: [Order; MAX_ORDERS],
+    orders: &[Order; MAX_ORDERS],
     order_count: usize,
     index: usize,
-    id: [u8; 16],
+    id: &[u8; 16],
     max_cash: u64,
-) -> u8
-    ensures { result ≡ investor_exclusion orders order_count index id max_cash }
+) -> Option<Exclusion>
+    ensures { exclusion_in result ≡ investor_exclusion orders.now order_count index id.now max_cash }
 {
-    let n = book::clear::at_most_orders(order_count);
-    let own = own_of(orders, index);
-    if trades_itself(orders, n, index, id, own.side) {
-        return SELF_TRADE;
+    let counted = &orders[..order_count.min(MAX_ORDERS)];
+    let (side, escrowed) = match orders.get(index) {
+        Some(own) => (own.side, own.escrowed),
+        None => (0, 0),
+    };
+    if trades_itself(counted, index, id, side) {
+        return Some(Exclusion::SelfTrade);
     }
-    if own.side != 0 {
-        return 0;
+    if side != 0 {
+        return None;
     }
-    let cash = cash_of(orders, n, index, id, own.escrowed);
-    if wide::less(wide::of_word(max_cash), cash) {
-        return INVESTOR_CAP_EXCEEDED;
+    if Wide::from(max_cash) < cash_of(counted, index, id, escrowed) {
+        return Some(Exclusion::InvestorCapExceeded);
     }
-    0
-}
-
-// Both in one reading: each function that reads the orders at an index copies them.
-fn own_of(orders: [Order; MAX_ORDERS], i: usize) -> Own
-    ensures { (result.side ≡ (order_in orders i).side) × (result.escrowed ≡ (order_in orders i).escrowed) }
-{
-    if i < MAX_ORDERS {
-        let o = orders[i];
-        return Own {
-            side: o.side,
-            escrowed: o.escrowed,
-        };
-    }
-    Own {
-        side: 0,
-        escrowed: 0,
-    }
+    None
 }
 
 // Whether the investor stands on the other side too.
-fn trades_itself(
-    orders: [Order; MAX_ORDERS],
-    n: usize,
-    index: usize,
-    id: [u8; 16],
-    side: u8,
-) -> bool
-    requires { (n ≤ max_orders) × (side ≡ (order_in orders index).side) }
-    ensures { result ≡ self_trade orders n index id }
+#[tactic(auto, using(laws::proofs::Search::some_start, laws::proofs::Search::some_more), unfolding(crate::specs::Exclusion::is_other))]
+fn trades_itself(orders: &[Order], index: usize, id: &[u8; 16], side: u8) -> bool
+    requires { length orders.now ≤ max_orders }
+    ensures { result ≡ some (λ j. is_other orders.now (length orders.now) index id.now j && not ((order_in orders.now j).side == side)) (length orders.now) }
 {
-    let mut j = 0;
-    while j < n {
-        let o = orders[j];
-        if opposes(o, j, index, id, side) {
+    for (j, o) in orders.iter().enumerate() {
+        if is_other(o, j, index, id) && o.side != side {
             return true;
         }
-        j += 1;
-    }
-    false
-}
-
-// Another live order of the investor's, on the other side.
-fn opposes(o: Order, j: usize, index: usize, id: [u8; 16], side: u8) -> bool
-    ensures { result ≡ (not (j == index) && is_live o && not (same o.investor_id no_investor) && same o.investor_id id) && not (o.side == side) }
-{
-    if is_other(o, j, index, id) {
-        return o.side != side;
-    }
-    false
-}
-
-// Whether o, order j, is another live order of the investor.
-fn is_other(o: Order, j: usize, index: usize, id: [u8; 16]) -> bool
-    ensures { result ≡ not (j == index) && is_live o && not (same o.investor_id no_investor) && same o.investor_id id }
-{
-    let own = o.investor_id;
-    if j == index {
-        return false;
-    }
-    if o.is_live() {
-        if book::same_id(own, [0; 16]) {
-            return false;
-        }
-        return book::same_id(own, id);
     }
     false
 }
 
 // The escrow of the order itself, `escrowed`, and of the investor's other buys.
-fn cash_of(orders: [Order; MAX_ORDERS], n: usize, index: usize, id: [u8; 16], escrowed: u64) -> Wide
-    requires { (n ≤ max_orders) × (escrowed ≡ (order_in orders index).escrowed) }
-    ensures { value result ≡ cash_of orders n index id }
+#[tactic(auto, using(laws::proofs::Sums::sum_none, laws::proofs::Sums::sum_more), unfolding(wide::specs::Value::modulus, crate::specs::Exclusion::is_other))]
+fn cash_of(orders: &[Order], index: usize, id: &[u8; 16], escrowed: u64) -> Wide
+    requires { length orders.now ≤ max_orders }
+    ensures { result ≡ escrowed + sum_below (λ j. only (is_other orders.now (length orders.now) index id.now j && is_buy (order_in orders.now j)) (order_in orders.now j).escrowed) (length orders.now) }
 {
-    let mut sum = wide::of_word(escrowed);
-    let mut j = 0;
-    while j < n {
-        let o = orders[j];
-        sum = wide::add(sum, cash_in(o, j, index, id));
-        j += 1;
+    let mut sum = Wide::from(escrowed);
+    for (j, o) in orders.iter().enumerate() {
+        if is_other(o, j, index, id) && o.side == 0 {
+            sum = sum.wrapping_add(o.escrowed);
+        }
     }
     sum
 }
 
-// The cash of another live buy of the investor's.
-fn cash_in(o: Order, j: usize, index: usize, id: [u8; 16]) -> u64
-    ensures { result ≡ only ((not (j == index) && is_live o && not (same o.investor_id no_investor) && same o.investor_id id) && is_buy o) o.escrowed }
+// Whether o, order j, is another live order of the investor.
+fn is_other(o: &Order, j: usize, index: usize, id: &[u8; 16]) -> bool
+    ensures { result ≡ not (j == index) && is_live o.now && not (same o.now.investor_id no_investor) && same o.now.investor_id id.now }
 {
-    if is_other(o, j, index, id) {
-        if o.side == 0 {
-            return o.escrowed;
-        }
-        return 0;
-    }
-    0
+    j != index && o.is_live() && o.investor_id != [0; 16] && o.investor_id == *id
 }

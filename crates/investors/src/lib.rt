@@ -3,3 +3,4 @@
 
 pub mod exclusion;
 pub mod participants;
+mod seen;

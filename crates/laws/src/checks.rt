@@ -1,9 +1,20 @@
 // Lists of checks: the number of the first that fails, 0 where all pass.
 ghost use Rattle.std.specs.Prelude.{◌≡◌, ◌&&◌, ◌||◌};
+ghost use Rattle.refusals.specs.Number.{number};
 ghost use Rattle.laws.specs.Checks.{unless, ◌then◌};
 
-// One check: 0 where the test holds, else the number.
-pub fn unless(test: bool, number: u8) -> u8
+use refusals::Refusal;
+
+// One check: 0 where the test holds, else the refusal's number.
+pub fn unless(test: bool, refusal: Refusal) -> u8
+    ensures { result ≡ unless test (number refusal) }
+{
+    if test { 0 } else { refusal.number() }
+}
+
+// The same of a number.
+#[tactic(auto, unfolding(crate::specs::Checks::unless))]
+pub fn number_unless(test: bool, number: u8) -> u8
     ensures { result ≡ unless test number }
 {
     if test { 0 } else { number }

@@ -1,4 +1,3 @@
 -- The source's public functions on a lent slice of records.
 pub mod Slices
 pub mod Figures
-pub mod Entries

@@ -1,3 +1,3 @@
 -- Laws of the search by order.
-pub mod ByOrder
+pub mod Sides
 pub mod Walk

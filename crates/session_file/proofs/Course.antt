@@ -1,13 +1,11 @@
 -- The records of a file are a course: one header, orders, and calls from the session that these open; and a clear with a `clear` line is where
 -- demand 3 starts. Assumes nothing.
-use Rattle.std.proofs.Common.{◌≡◌, ℕ, zero, suc, ◌<◌, ◌≤◌, Bool, true, false, cond, ◌&&◌, eqb, ltb, leb, ◌≢◌, ◌⊎◌, List, [], ◌∷◌, ◌++◌, length, drop, ℤ, sym, refl, ap, ◌∙◌, subst, inl, inr, ⊎_elim, append_assoc, append-nil, arith, ltb-true, eq-eqb, eqb-true, leb-true}
+use Rattle.std.proofs.Common.{◌≡◌, ℕ, zero, suc, ◌<◌, ◌≤◌, Bool, true, false, cond, ◌&&◌, eqb, ltb, leb, ◌≢◌, ◌⊎◌, List, [], ◌∷◌, ◌++◌, length, drop, ℤ, sym, refl, ap, ◌∙◌, subst, inl, inr, ⊎_elim, append_assoc, append-nil, arith, ltb-true, eq-eqb, eqb-true, leb-true, None, Option, Some}
 use mathlib.Core.Bool.{false≢true}
 use Rattle.laws.proofs.Tests.{both}
 use Rattle.book.specs.declared.Row.{Row}
 use Rattle.events.specs.declared.Event.{Event}
 use Rattle.events.specs.declared.Event.TheVariants.{Cleared, Refused}
-use Rattle.escrow.specs.declared.Cover.{Cover}
-use Rattle.escrow.specs.declared.Cover.TheVariants.{Unasked, Decimals}
 use Rattle.auction_engine.specs.declared.Session.{Session}
 use Rattle.auction_engine.specs.Session.{fresh}
 use Rattle.auction_engine.specs.Call.{Call, clear}
@@ -132,7 +130,7 @@ rows_more : (s : Session) (rows : List Row) (row : Row) → with_rows s (rows ++
 rows_more s [] row = refl
 rows_more s (x ∷ rows) row = rows_more (with_order s x) rows row
 
-accepted_more : (s : Session) (cover : Cover) (rows : List Row) (row : Row) → RowsAccepted s cover rows → order_refusal (with_rows s rows) cover row ≡ 0
+accepted_more : (s : Session) (cover : Option ℕ) (rows : List Row) (row : Row) → RowsAccepted s cover rows → order_refusal (with_rows s rows) cover row ≡ 0
     → RowsAccepted s cover (rows ++ (row ∷ []))
 accepted_more s cover [] row a z = (z, tt)
 accepted_more s cover (x ∷ rows) row a z = (a.0, accepted_more (with_order s x) cover rows row a.1 z)
@@ -167,7 +165,7 @@ follows before o f [] q e h v a =
 follows before o f (refused n ∷ l) q e h v a = absurd (never_refused before v.0)
 follows before o f (header p g cover ∷ l) q e h v a = absurd (omega (arith, header_first before v.0))
 follows before o f (order row ∷ l) q e h v a =
-    let z : order_refusal (opened o) o.cover row ≡ 0 = subst (λ (s : Session). order_refusal s o.cover row ≡ 0) e (subst (λ (c : Cover). order_refusal f.session c row ≡ 0) q a.0) in
+    let z : order_refusal (opened o) o.cover row ≡ 0 = subst (λ (s : Session). order_refusal s o.cover row ≡ 0) e (subst (λ (c : Option ℕ). order_refusal f.session c row ≡ 0) q a.0) in
     let e' : with_order f.session row ≡ opened (more o row z) =
     ap (λ (s : Session). with_order s row) e ∙ sym (rows_more (fresh o.params o.given) o.rows row) in
     let r = follows order_kind (more o row z) (made f (order row)) l q e' (omega arith) v.1 a.1 in
@@ -313,11 +311,11 @@ first_asks (header p g cover) l v = refl
 first_asks (order row) l v = absurd (omega (arith, only_header order_kind v))
 first_asks (call c) l v = absurd (omega (arith, only_header call_kind v))
 
-next_unasked : (s : List ℕ) → mark_at s ≢ SI → (fields_in (read_next no_kind s)).cover ≡ Unasked
+next_unasked : (s : List ℕ) → mark_at s ≢ SI → (fields_in (read_next no_kind s)).cover ≡ None
 unfolding read_next
 next_unasked s d = go (eqb (reading_refusal no_kind s) 0)
   where
-    go : (t : Bool) → (fields_in (cond t (fields_of (mark_at s) (record_at s)) (refused (reading_refusal no_kind s)))).cover ≡ Unasked
+    go : (t : Bool) → (fields_in (cond t (fields_of (mark_at s) (record_at s)) (refused (reading_refusal no_kind s)))).cover ≡ None
     go true = sym (unasked_read (record_at s) (mark_at s) d)
     go false = refl
 
@@ -332,5 +330,5 @@ unfolding file_refusal
 covered_in_file s l k row decimals e asks =
     let f : State = made_all start l in
     let z : order_refusal f.session f.cover row ≡ 0 = next_accepted start l (order row) k (file_accepted s l (order row ∷ k) e) in
-    let c : f.cover ≡ Decimals decimals = header_asks s l (order row ∷ k) e ∙ asks in
-    accepted_covered f.session decimals row (subst (λ (a : Cover). order_refusal f.session a row ≡ 0) c z)
+    let c : f.cover ≡ Some decimals = header_asks s l (order row ∷ k) e ∙ asks in
+    accepted_covered f.session decimals row (subst (λ (a : Option ℕ). order_refusal f.session a row ≡ 0) c z)

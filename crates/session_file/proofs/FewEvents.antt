@@ -1,9 +1,9 @@
 -- The events of an accepted call are as many as the struct that carries them holds. Assumes nothing.
+use Rattle.book.specs.Clear.{Outcome}
 use Rattle.std.proofs.Common.{◌≡◌, ℕ, ◌+◌, ◌≤◌, Bool, true, false, cond, not, eqb, [], ◌∷◌, ◌++◌, length, ℤ, sym, refl, ⊎_elim, arith, length-append, leb-true}
 use Rattle.laws.proofs.Checking.{then_zero, check_zero, unless_zero}
 use Rattle.laws.proofs.Tests.{tested}
 use Rattle.book.specs.Limits.{max_fills}
-use Rattle.book.specs.declared.clear.Outcome.{Outcome}
 use Rattle.events.specs.Events.{max_events}
 use Rattle.events.specs.declared.Event.TheVariants as event
 use Rattle.auction_engine.specs.declared.Session.{Session}

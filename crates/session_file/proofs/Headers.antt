@@ -1,15 +1,13 @@
 -- What is read of a header, `SH` or `SI`, where one arm is for both, and that no mark but `SI` asks for cover. Assumes nothing.
-use Rattle.std.proofs.Common.{◌≡◌, ℕ, ◌≢◌, List, refl, ⊎_elim}
+use Rattle.std.proofs.Common.{◌≡◌, ℕ, ◌≢◌, List, refl, ⊎_elim, None, Option}
 use mathlib.Core.Logic.{◌⊎◌}
-use Rattle.escrow.specs.declared.Cover.{Cover}
-use Rattle.escrow.specs.declared.Cover.TheVariants.{Unasked}
 use Rattle.session_file.specs.declared.records.Mark.{Mark}
 use Rattle.session_file.specs.declared.records.Mark.TheVariants.{Unknown, SH, SI, OR, SC, CL, AL, RX, RC, ST, SK, FN, EX}
 use Rattle.session_file.specs.Fields.{params_of, given_of, fields_of}
 use Rattle.session_file.specs.Calls.{header_fields, fields_in}
 
 module _ (rec : List ℕ) where
-  abbrev cover_in : Mark → Cover
+  abbrev cover_in : Mark → Option ℕ
   cover_in m = (fields_in (fields_of m rec)).cover
 
   pub header_read : (m : Mark) → (m ≡ SH) ⊎ (m ≡ SI) → header_fields (params_of rec) (given_of rec) (cover_in m) ≡ fields_in (fields_of m rec)
@@ -28,7 +26,7 @@ module _ (rec : List ℕ) where
   header_read FN h = ⊎_elim (λ e. cc e) (λ e. cc e) h
   header_read EX h = ⊎_elim (λ e. cc e) (λ e. cc e) h
 
-  pub unasked_read : (m : Mark) → m ≢ SI → Unasked ≡ cover_in m
+  pub unasked_read : (m : Mark) → m ≢ SI → None ≡ cover_in m
   unfolding fields_of
   unasked_read Unknown h = refl
   unasked_read SH h = refl

@@ -1,6 +1,5 @@
 -- The parts of a listing in turn are the listing; and a part as the code comes to it. Assumes nothing.
-use Rattle.std.specs.Prelude.{Ok}
-use Rattle.std.proofs.Common.{◌≡◌, ℕ, zero, suc, ◌+◌, ◌<◌, ◌≤◌, Bool, true, false, cond, eqb, List, [], ◌∷◌, ◌++◌, length, sym, refl, ap, ◌∙◌, ⊎_elim, append-nil, mod-eq_of_lt, arith, le-ltb, lt-ltb, eqb-true, le-leb}
+use Rattle.std.proofs.Common.{◌≡◌, ℕ, zero, suc, ◌+◌, ◌<◌, ◌≤◌, Bool, true, false, cond, eqb, List, [], ◌∷◌, ◌++◌, length, sym, refl, ap, ◌∙◌, ⊎_elim, append-nil, mod-eq_of_lt, arith, le-ltb, lt-ltb, eqb-true, le-leb, None, Option, Ok}
 use borrow.Author.Tests.{eqb-false, lt-leb}
 use Rattle.laws.proofs.Tests.{tested, lt_or_le}
 use Rattle.events.specs.Events.{events_in}
@@ -8,8 +7,6 @@ use Rattle.events.specs.declared.Event.TheVariants.{Opened, Refused}
 use Rattle.events.proofs.Packed.{events_packed, pair_packed}
 use Rattle.listing.specs.Lines.{record_lines}
 use Rattle.octets.specs.Writing.{written, after}
-use Rattle.escrow.specs.declared.Cover.{Cover}
-use Rattle.escrow.specs.declared.Cover.TheVariants.{Unasked}
 use Rattle.auction_engine.specs.declared.Session.{Session}
 use Rattle.auction_engine.specs.declared.changes.Change.{Change}
 use Rattle.session_file.specs.declared.fields.Fields.{Fields}
@@ -27,7 +24,7 @@ use Rattle.session_file.proofs.Stepping.{Stepped}
 
 -- ---- a part as the code comes to it
 -- the session after a record and what is said of it, by the way in which it is run
-pub handled_is : (x : Session) (stage : ℕ) (cover : Cover) (r : Read) (f : Fields) (c : Change) (t : Step) → Stepped x stage cover r f c t
+pub handled_is : (x : Session) (stage : ℕ) (cover : Option ℕ) (r : Read) (f : Fields) (c : Change) (t : Step) → Stepped x stage cover r f c t
     → ((handled_by x t c f).session ≡ cond (eqb (file_refusal (state stage cover x) r) 0) (made (state stage cover x) r).session x)
     × (events_in (handled_by x t c f).said ≡ said_of (state stage cover x) r)
 unfolding handled_by
@@ -163,7 +160,7 @@ parts_at s short (suc n) k p x number c w m e = ⊎_elim (more k e (parts_at s s
 -- an input above the limit: 26, and the last line
 module _ (s : List ℕ) where
   abbrev refused_place : Place
-  refused_place = record { at = length s; stage = no_kind; cover = Unasked }
+  refused_place = record { at = length s; stage = no_kind; cover = None }
 
   refused_part : part_at s (begun true) ≡ record_lines 0 (Refused 26 ∷ [])
   unfolding begun part_at

@@ -1,5 +1,5 @@
 -- Each `refused` line of a file has a number of its record's place; of a call, one of its row or the 4 of its own arguments. Assumes nothing.
-use Rattle.std.proofs.Common.{◌≡◌, ℕ, zero, suc, ◌<◌, Bool, true, false, cond, eqb, ltb, ◌≢◌, List, [], ◌∷◌, ◌++◌, length, drop, sym, refl, ap, ◌∙◌, subst, inl, inr, ⊎_elim, arith, eq-eqb, eqb-true}
+use Rattle.std.proofs.Common.{◌≡◌, ℕ, zero, suc, ◌<◌, Bool, true, false, cond, eqb, ltb, ◌≢◌, List, [], ◌∷◌, ◌++◌, length, drop, sym, refl, ap, ◌∙◌, subst, inl, inr, ⊎_elim, arith, eq-eqb, eqb-true, None, Option, Some}
 use borrow.Author.Tests.{eqb-false}
 use Rattle.laws.specs.Lists.{Member, has}
 use Rattle.laws.proofs.Checking.{then_in}
@@ -10,8 +10,6 @@ use Rattle.book.specs.declared.Row.{Row}
 use Rattle.events.specs.declared.Event.{Event}
 use Rattle.events.specs.declared.Event.TheVariants.{OrderScreened, FillAllocated, PhaseChanged, Cleared, SessionFailed, FillSettled, Opened, Ordered, Refused}
 use Rattle.escrow.specs.Cover.{decimals_refusal, cover_refusal}
-use Rattle.escrow.specs.declared.Cover.{Cover}
-use Rattle.escrow.specs.declared.Cover.TheVariants.{Unasked, Decimals}
 use Rattle.auction_engine.specs.declared.Session.{Session}
 use Rattle.auction_engine.specs.Session.{fill_at, clearing}
 use Rattle.auction_engine.specs.Call.{Call, screen, clear, allocate, exercise, close, settle, skip, finish, expire, arguments_refusal}
@@ -58,13 +56,13 @@ reading_in before rest =
     (check each_record 1 _ _ refl
     (flags_in_lem (record_at rest) (shape_at rest).flags))))
 
-decimals_in : (l : List ℕ) → has l 4 ≡ true → (asked : Cover) → Member (decimals_refusal asked) (0 ∷ l)
+decimals_in : (l : List ℕ) → has l 4 ≡ true → (asked : Option ℕ) → Member (decimals_refusal asked) (0 ∷ l)
 unfolding decimals_refusal
-decimals_in l h Unasked = inl refl
-decimals_in l h (Decimals decimals) = last l 4 _ h
+decimals_in l h None = inl refl
+decimals_in l h (Some decimals) = last l 4 _ h
 
 -- `SH`, `SI`
-header_in : (cover : Cover) (p : Params) (g : Given) (asked : Cover) → Member (header_refusal p g asked) (0 ∷ place_numbers cover (header p g asked))
+header_in : (cover : Option ℕ) (p : Params) (g : Given) (asked : Option ℕ) → Member (header_refusal p g asked) (0 ∷ place_numbers cover (header p g asked))
 unfolding header_refusal has
 header_in cover p g asked =
     let l : List ℕ = place_numbers cover (header p g asked) in
@@ -81,21 +79,21 @@ header_in cover p g asked =
     (last l 6 _ refl))))))))))
 
 -- `OR`: of the row by itself, and of its place
-row_in : (cover : Cover) (row : Row) → Member (row_refusal cover row) (0 ∷ order_numbers cover)
+row_in : (cover : Option ℕ) (row : Row) → Member (row_refusal cover row) (0 ∷ order_numbers cover)
 unfolding row_refusal cover_refusal has
-row_in Unasked row =
-    let l : List ℕ = order_numbers Unasked in
+row_in None row =
+    let l : List ℕ = order_numbers None in
     check l 4 _ _ refl (check l 6 _ _ refl (check l 6 _ _ refl (inl refl)))
-row_in (Decimals decimals) row =
-    let l : List ℕ = order_numbers (Decimals decimals) in
+row_in (Some decimals) row =
+    let l : List ℕ = order_numbers (Some decimals) in
     check l 4 _ _ refl (check l 6 _ _ refl (check l 6 _ _ refl (last l 31 _ refl)))
 
-has_place : (cover : Cover) → (has (order_numbers cover) 7 ≡ true) × (has (order_numbers cover) 8 ≡ true)
+has_place : (cover : Option ℕ) → (has (order_numbers cover) 7 ≡ true) × (has (order_numbers cover) 8 ≡ true)
 unfolding has
-has_place Unasked = (refl, refl)
-has_place (Decimals decimals) = (refl, refl)
+has_place None = (refl, refl)
+has_place (Some decimals) = (refl, refl)
 
-order_in_lem : (s : Session) (cover : Cover) (row : Row) → Member (order_refusal s cover row) (0 ∷ order_numbers cover)
+order_in_lem : (s : Session) (cover : Option ℕ) (row : Row) → Member (order_refusal s cover row) (0 ∷ order_numbers cover)
 unfolding order_refusal
 order_in_lem s cover row =
     let l : List ℕ = order_numbers cover in
@@ -216,7 +214,7 @@ call_numbers f c n P z = go (eqb (refusal f.session c) 0) refl
         (other_than_zero (refusal f.session c) (numbers_of c) (eqb-false (refusal f.session c) 0 e) (own_numbers f.session c P.limits P.fields z)) q
 
 -- a call that ends the file, by its own arguments
-call_in_lem : (cover : Cover) (c : Call) → Member (arguments_refusal c) (0 ∷ place_numbers cover (call c))
+call_in_lem : (cover : Option ℕ) (c : Call) → Member (arguments_refusal c) (0 ∷ place_numbers cover (call c))
 call_in_lem cover c =
     ⊎_elim (λ (t : eqb (arguments_refusal c) 0 ≡ true). inl (eqb-true (arguments_refusal c) 0 t))
     (λ (t : eqb (arguments_refusal c) 0 ≡ false). rw t (arguments_in (4 ∷ []) c (inl refl)))

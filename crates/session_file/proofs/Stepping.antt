@@ -1,5 +1,5 @@
 -- The step of a record as the code comes to it is what is said of the record in File.antt. Assumes nothing.
-use Rattle.std.proofs.Common.{◌≡◌, ℕ, ◌+◌, ◌<◌, ◌≤◌, Bool, true, false, cond, not, eqb, leb, ◌≢◌, List, [], ◌∷◌, length, drop, sym, refl, ap, ◌∙◌, ⊎_elim, arith, length-drop, eq-eqb, ne_eqb, eqb-true}
+use Rattle.std.proofs.Common.{◌≡◌, ℕ, ◌+◌, ◌<◌, ◌≤◌, Bool, true, false, cond, not, eqb, leb, ◌≢◌, List, [], ◌∷◌, length, drop, sym, refl, ap, ◌∙◌, ⊎_elim, arith, length-drop, eq-eqb, ne_eqb, eqb-true, Option}
 use mathlib.Core.Bool.{false≢true}
 use borrow.Author.Tests.{eqb-false, not-false}
 use Rattle.laws.specs.Checks.{unless, first_of}
@@ -14,7 +14,6 @@ use Rattle.book.specs.declared.Row.{Row}
 use Rattle.events.specs.Events.{event_pair, pair_events, packed, events_in}
 use Rattle.events.specs.declared.Event.TheVariants.{Opened, Ordered, Refused}
 use Rattle.events.proofs.Packed.{events_packed, pair_packed}
-use Rattle.escrow.specs.declared.Cover.{Cover}
 use Rattle.auction_engine.specs.declared.Session.{Session}
 use Rattle.auction_engine.specs.declared.Answer.{Answer}
 use Rattle.auction_engine.specs.declared.changes.Change.{Change}
@@ -76,7 +75,7 @@ said_change : (x : Session) (c : Change) → c.refusal ≡ 0 → pair_events c.e
 unfolding said_all
 said_change x c z = rw (eq-eqb c.refusal 0 z) (sym (pair_packed c.events))
 
-said_answer : (x : Session) (stage : ℕ) (cover : Cover) (c : Call) → events_in (said_all (answer x c)) ≡ said_by (state stage cover x) (call c)
+said_answer : (x : Session) (stage : ℕ) (cover : Option ℕ) (c : Call) → events_in (said_all (answer x c)) ≡ said_by (state stage cover x) (call c)
 unfolding said_all said_by answer
 said_answer x stage cover c =
     ⊎_elim
@@ -85,7 +84,7 @@ said_answer x stage cover c =
     (tested (eqb (refusal x c) 0))
 
 -- a refused call: the session as given, and its number
-refused_call : (x : Session) (stage : ℕ) (cover : Cover) (c : Call) (n : ℕ) → n ≡ (answer x c).refusal → n ≢ 0
+refused_call : (x : Session) (stage : ℕ) (cover : Option ℕ) (c : Call) (n : ℕ) → n ≡ (answer x c).refusal → n ≢ 0
     → (x ≡ (answer x c).session) × (Refused n ∷ [] ≡ said_by (state stage cover x) (call c))
 unfolding answer said_by
 refused_call x stage cover c n is z = go (eqb (refusal x c) 0) is
@@ -97,7 +96,7 @@ refused_call x stage cover c n is z = go (eqb (refusal x c) 0) is
     go false e = (refl, ap (λ (m : ℕ). Refused m ∷ []) e)
 
 -- ---- a record with its fields f, read as r: what is to be done with it, t, and what it changes, c
-pub record Stepped (x : Session) (stage : ℕ) (cover : Cover) (r : Read) (f : Fields) (c : Change) (t : Step) : Type 0 where
+pub record Stepped (x : Session) (stage : ℕ) (cover : Option ℕ) (r : Read) (f : Fields) (c : Change) (t : Step) : Type 0 where
   pub ends : t.ends ≡ not (eqb (file_refusal (state stage cover x) r) 0)
   pub order_place : c.order_at < max_orders
   pub fill_place : c.fill_at < max_fills
@@ -116,7 +115,7 @@ pub record Stepped (x : Session) (stage : ℕ) (cover : Cover) (r : Read) (f : F
       × (pair_events c.events ≡ said_of (state stage cover x) r)
 
 -- the places of any record's change are among those of the arrays
-change_within : (x : Session) (cover : Cover) (f : Fields) → ((change_in x cover f).order_at < max_orders) × ((change_in x cover f).fill_at < max_fills)
+change_within : (x : Session) (cover : Option ℕ) (f : Fields) → ((change_in x cover f).order_at < max_orders) × ((change_in x cover f).fill_at < max_fills)
 unfolding record_change
 change_within x cover f = go (eqb f.kind order_kind)
   where
@@ -139,7 +138,7 @@ cover_in_lem f (header p g asked) = refl
 cover_in_lem f (order row) = refl
 cover_in_lem f (call c) = refl
 
-module _ (x : Session) (stage : ℕ) (cover : Cover) where
+module _ (x : Session) (stage : ℕ) (cover : Option ℕ) where
   abbrev st : State
   st = state stage cover x
 
@@ -156,7 +155,7 @@ module _ (x : Session) (stage : ℕ) (cover : Cover) where
     by_change = λ e _ _. absurd (z e);
   }
 
-  header_stepped : (p : Params) (g : Given) (asked : Cover) (n : ℕ) → let f = fields_in (header p g asked) in Stepped x stage cover (header p g asked) f (change_in x cover f) (step_of 0 f n)
+  header_stepped : (p : Params) (g : Given) (asked : Option ℕ) (n : ℕ) → let f = fields_in (header p g asked) in Stepped x stage cover (header p g asked) f (change_in x cover f) (step_of 0 f n)
   unfolding step_of early_refusal first_of file_refusal made said_by said_of
   header_stepped p g asked n =
       ⊎_elim

@@ -1,11 +1,9 @@
 -- The struct of a record's fields, and the call record that says what a call says.
-use Rattle.std.specs.Prelude.{ℕ, Bool, false, List, ℤ, pos}
+use Rattle.std.specs.Prelude.{ℕ, Bool, false, List, ℤ, pos, None, Option}
 use Rattle.book.specs.Book.{no_investor, no_wallet}
 use Rattle.book.specs.declared.Params.{Params}
 use Rattle.book.specs.declared.Given.{Given}
 use Rattle.book.specs.declared.Row.{Row}
-use Rattle.escrow.specs.declared.Cover.{Cover}
-use Rattle.escrow.specs.declared.Cover.TheVariants.{Unasked}
 use Rattle.auction_engine.specs.Call.{Call, screen, clear, allocate, exercise, close, settle, skip, finish, expire, screen_kind, clear_kind, allocate_kind, exercise_kind, close_kind, settle_kind, skip_kind, finish_kind, expire_kind}
 use Rattle.auction_engine.specs.declared.CallRecord.{CallRecord}
 use Rattle.session_file.specs.declared.fields.Fields.{Fields}
@@ -63,16 +61,16 @@ blank_row = record { owner = no_wallet; side = 0; escrowed = 0; revealed = false
 
 -- the struct of a record's fields, by its kind
 abbrev pub no_fields : Fields
-no_fields = record { kind = no_kind; params = blank_params; given = blank_given; cover = Unasked; row = blank_row; call = no_call }
+no_fields = record { kind = no_kind; params = blank_params; given = blank_given; cover = None; row = blank_row; call = no_call }
 
-abbrev pub header_fields : Params → Given → Cover → Fields
+abbrev pub header_fields : Params → Given → Option ℕ → Fields
 header_fields p g cover = record { kind = header_kind; params = p; given = g; cover = cover; row = blank_row; call = no_call }
 
 abbrev pub order_fields : Row → Fields
-order_fields r = record { kind = order_kind; params = blank_params; given = blank_given; cover = Unasked; row = r; call = no_call }
+order_fields r = record { kind = order_kind; params = blank_params; given = blank_given; cover = None; row = r; call = no_call }
 
 abbrev pub call_fields : CallRecord → Fields
-call_fields c = record { kind = call_kind; params = blank_params; given = blank_given; cover = Unasked; row = blank_row; call = c }
+call_fields c = record { kind = call_kind; params = blank_params; given = blank_given; cover = None; row = blank_row; call = c }
 
 -- the struct of what was read; of a refusal, the blank one
 abbrev pub fields_in : Read → Fields

@@ -1,12 +1,10 @@
 -- What ties a file to demand 3, what its escrows cover, and its refusals to their places: proofs/Course.antt, proofs/Refusals.antt.
-use Rattle.std.specs.Prelude.{◌≡◌, ℕ, if◌then◌else◌, ◌≢◌, ◌⊎◌, List, [], ◌∷◌, ◌++◌, ℤ, ◌==◌}
+use Rattle.std.specs.Prelude.{◌≡◌, ℕ, if◌then◌else◌, ◌≢◌, ◌⊎◌, List, [], ◌∷◌, ◌++◌, ℤ, ◌==◌, None, Option, Some}
 use Rattle.laws.specs.Lists.{Member}
 use Rattle.book.specs.declared.Params.{Params}
 use Rattle.book.specs.declared.Given.{Given}
 use Rattle.book.specs.declared.Row.{Row}
 use Rattle.escrow.specs.Claims.{Covers}
-use Rattle.escrow.specs.declared.Cover.{Cover}
-use Rattle.escrow.specs.declared.Cover.TheVariants.{Unasked, Decimals}
 use Rattle.events.specs.declared.Event.{Event}
 use Rattle.events.specs.declared.Event.TheVariants.{Cleared, Refused}
 use Rattle.auction_engine.specs.Call.{Call, clear, arguments_refusal}
@@ -32,7 +30,7 @@ made_all f (x ∷ l) = made_all (made f x) l
 pub record Header : Type 0 where
   pub params : Params
   pub given : Given
-  pub cover : Cover
+  pub cover : Option ℕ
 
 -- the headers, the orders and the calls among records
 abbrev pub headers_in : List Read → List Header
@@ -82,8 +80,8 @@ ClearedInFile =
     → StartsDemand3 (made (made_all start l) (call (clear now))) k
 
 -- what headers ask of escrows: what the first asks
-abbrev pub asked_by : List Header → Cover
-asked_by [] = Unasked
+abbrev pub asked_by : List Header → Option ℕ
+asked_by [] = None
 asked_by (h ∷ l) = h.cover
 
 -- each record is judged by what the file's own header asks of escrows
@@ -92,21 +90,21 @@ HeaderAsks = (s : List ℕ) (l k : List Read) → before_end start (reads s) ≡
 
 -- '`SH` files are read as before': in a file that does not begin with `SI` no record is asked for cover, and the rows are document 01's
 abbrev pub OnlySIAsks : Type 0
-OnlySIAsks = (s : List ℕ) (l k : List Read) → mark_at s ≢ SI → before_end start (reads s) ≡ l ++ k → (made_all start l).cover ≡ Unasked
+OnlySIAsks = (s : List ℕ) (l k : List Read) → mark_at s ≢ SI → before_end start (reads s) ≡ l ++ k → (made_all start l).cover ≡ None
 
 -- 'With it a revealed buy's .. must be at most its escrow': after `SI` the escrow of an order that the file goes on after covers all that it can ever pay
 abbrev pub CoveredInFile : Type 0
 CoveredInFile =
     (s : List ℕ) (l k : List Read) (row : Row) (decimals : ℕ) → before_end start (reads s) ≡ l ++ (order row ∷ k)
-    → asked_by (headers_in l) ≡ Decimals decimals → Covers decimals row
+    → asked_by (headers_in l) ≡ Some decimals → Covers decimals row
 
 -- the numbers of a record's place: 'Each record'; `SH`, `SI`; `OR`, with 31 where cover is asked; of a call 4 where its own arguments are outside
 -- their values, else its row. No file comes to 9
-abbrev pub order_numbers : Cover → List ℕ
-order_numbers Unasked = 4 ∷ 6 ∷ 7 ∷ 8 ∷ []
-order_numbers (Decimals decimals) = 4 ∷ 6 ∷ 31 ∷ 7 ∷ 8 ∷ []
+abbrev pub order_numbers : Option ℕ → List ℕ
+order_numbers None = 4 ∷ 6 ∷ 7 ∷ 8 ∷ []
+order_numbers (Some decimals) = 4 ∷ 6 ∷ 31 ∷ 7 ∷ 8 ∷ []
 
-abbrev pub place_numbers : Cover → Read → List ℕ
+abbrev pub place_numbers : Option ℕ → Read → List ℕ
 place_numbers cover (refused number) = 1 ∷ 2 ∷ 3 ∷ 4 ∷ []
 place_numbers cover (header p g asked) = 4 ∷ 5 ∷ 6 ∷ []
 place_numbers cover (order row) = order_numbers cover

@@ -1,10 +1,8 @@
 -- The fields of a record, by its mark. `rec` is the record's bytes, its mark first.
-use Rattle.std.specs.Prelude.{ℕ, List}
+use Rattle.std.specs.Prelude.{ℕ, List, None, Option, Some}
 use Rattle.book.specs.declared.Params.{Params}
 use Rattle.book.specs.declared.Given.{Given}
 use Rattle.book.specs.declared.Row.{Row}
-use Rattle.escrow.specs.declared.Cover.{Cover}
-use Rattle.escrow.specs.declared.Cover.TheVariants.{Unasked, Decimals}
 use Rattle.auction_engine.specs.Call.{Call, screen, clear, allocate, exercise, close, settle, skip, finish, expire}
 use Rattle.session_file.specs.declared.records.Mark.{Mark}
 use Rattle.session_file.specs.declared.records.Mark.TheVariants.{Unknown, SH, SI, OR, SC, CL, AL, RX, RC, ST, SK, FN, EX}
@@ -49,7 +47,7 @@ row_of rec =
 -- what reading finds: a refusal of 'Each record', or a header, an order or a call
 pub data Read : Type 0 where
   refused : (refusal : ℕ) → Read
-  header : Params → Given → Cover → Read
+  header : Params → Given → Option ℕ → Read
   order : Row → Read
   call : Call → Read
 
@@ -57,8 +55,8 @@ pub data Read : Type 0 where
 -- `RX` now, issuer 32, fill 4, qty 8; `RC` now, caller 32; `ST` fill 4; `SK` now, fill 4, reason 1
 unfoldable pub fields_of : Mark → List ℕ → Read
 fields_of Unknown rec = refused 2
-fields_of SH rec = header (params_of rec) (given_of rec) Unasked
-fields_of SI rec = header (params_of rec) (given_of rec) (Decimals (word 1 rec 94))
+fields_of SH rec = header (params_of rec) (given_of rec) None
+fields_of SI rec = header (params_of rec) (given_of rec) (Some (word 1 rec 94))
 fields_of OR rec = order (row_of rec)
 fields_of SC rec =
     call (screen (time_at rec 2) (word 1 rec 10) (word 1 rec 11) (word 1 rec 12) (flag_at rec 13) (bytes_at 16 rec 14))

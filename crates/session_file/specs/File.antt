@@ -1,8 +1,6 @@
 -- What the records of a file make, what is said of each, and the listing.
-use Rattle.std.specs.Prelude.{ℕ, ◌+◌, false, if◌then◌else◌, not, List, [], ◌∷◌, ◌++◌, length, pos, ◌==◌, nat_le}
+use Rattle.std.specs.Prelude.{ℕ, ◌+◌, false, if◌then◌else◌, not, List, [], ◌∷◌, ◌++◌, length, pos, ◌==◌, nat_le, None, Option}
 use Rattle.book.specs.Book.{no_wallet}
-use Rattle.escrow.specs.declared.Cover.{Cover}
-use Rattle.escrow.specs.declared.Cover.TheVariants.{Unasked}
 use Rattle.events.specs.declared.Event.{Event}
 use Rattle.events.specs.declared.Event.TheVariants.{Opened, Ordered, Refused}
 use Rattle.listing.specs.Lines.{record_lines, end_line}
@@ -18,10 +16,10 @@ use Rattle.session_file.specs.Reads.{reads}
 -- what a file carries from record to record: the kind of the record before, what its header asks of escrows, and the session
 pub record State : Type 0 where
   pub stage : ℕ
-  pub cover : Cover
+  pub cover : Option ℕ
   pub session : Session
 
-abbrev pub state : (stage : ℕ) → Cover → Session → State
+abbrev pub state : (stage : ℕ) → Option ℕ → Session → State
 state stage cover s = record { stage = stage; cover = cover; session = s }
 
 -- before the first record: no header yet, so the session is not shown to anybody
@@ -32,7 +30,7 @@ unopened =
     (record { mark = false; reserve = 0; reference = 0; policy = 0; band_bps = 0 })
 
 abbrev pub start : State
-start = state no_kind Unasked unopened
+start = state no_kind None unopened
 
 -- a file refusal: of reading, of the rows `SH`, `SI` and `OR`, or a call's '4 a field outside its values'; 0 lets the file go on
 unfoldable pub file_refusal : State → Read → ℕ

@@ -1,6 +1,5 @@
 -- A listing part by part. proofs/PartByPart.antt shows that the parts in turn are the listing.
-use Rattle.std.specs.Prelude.{◌≡◌, ℕ, zero, suc, ◌+◌, ◌%◌, ◌^◌, ◌<◌, ◌≤◌, Bool, true, false, if◌then◌else◌, List, [], ◌∷◌, ◌++◌, length, drop, ◌==◌, nat_lt}
-use Rattle.escrow.specs.declared.Cover.TheVariants.{Unasked}
+use Rattle.std.specs.Prelude.{◌≡◌, ℕ, zero, suc, ◌+◌, ◌%◌, ◌^◌, ◌<◌, ◌≤◌, Bool, true, false, if◌then◌else◌, List, [], ◌∷◌, ◌++◌, length, drop, ◌==◌, nat_lt, None}
 use Rattle.events.specs.declared.Event.{Event}
 use Rattle.events.specs.declared.Event.TheVariants.{Refused}
 use Rattle.listing.specs.Lines.{record_lines, max_record}
@@ -21,7 +20,7 @@ state_at p x = state p.stage p.cover x
 
 -- before the first record
 abbrev pub first_place : Place
-first_place = record { at = 0; stage = no_kind; cover = Unasked }
+first_place = record { at = 0; stage = no_kind; cover = None }
 
 -- what the record at a place leaves, where s is the file and x the session: the place after it, the session, and what is said
 pub record AfterRecord : Type 0 where

@@ -1,12 +1,11 @@
 -- What the code hands on while it runs a file: a record, and what is to be done with it. proofs/ shows that it is what File.antt says of the record.
-use Rattle.std.specs.Prelude.{◌≡◌, ℕ, ◌+◌, ◌≤◌, Bool, true, false, if◌then◌else◌, not, ◌&&◌, List, [], ◌∷◌, length, drop, ◌==◌, Result}
+use Rattle.std.specs.Prelude.{◌≡◌, ℕ, ◌+◌, ◌≤◌, Bool, true, false, if◌then◌else◌, not, ◌&&◌, List, [], ◌∷◌, length, drop, ◌==◌, Option, Result}
 use Rattle.laws.specs.Checks.{◌then◌}
 use Rattle.events.specs.Events.{packed}
 use Rattle.events.specs.declared.Event.TheVariants.{Refused}
 use Rattle.events.specs.declared.Events.{Events}
 use Rattle.octets.specs.Writing.{splice, written}
 use Rattle.refusals.specs.declared.Refusal.{Refusal}
-use Rattle.escrow.specs.declared.Cover.{Cover}
 use Rattle.auction_engine.specs.declared.Session.{Session}
 use Rattle.auction_engine.specs.declared.Answer.{Answer}
 use Rattle.auction_engine.specs.declared.changes.Change.{Change}
@@ -41,7 +40,7 @@ early_refusal n f =
     n then (if f.kind == header_kind then header_refusal f.params f.given f.cover else if f.kind == call_kind then record_arguments f.call else 0)
 
 -- what the record changes
-abbrev pub change_in : Session → Cover → Fields → Change
+abbrev pub change_in : Session → Option ℕ → Fields → Change
 change_in s cover f = record_change s (f.kind == order_kind) cover f.row f.call
 
 -- a record that ends the file, and a header

@@ -9,14 +9,13 @@ use crate::records::Mark;
 use crate::{calls, records};
 use auction_engine::CallRecord;
 use book::{Given, Params, Row};
-use escrow::Cover;
 use octets::reading;
 
 // What stands in a record: its kind, and the fields of that kind; those of the other kinds are blank.
 #[derive(Clone, Copy, Drop)]
 pub struct Fields {
     pub kind: u8,
-    pub cover: Cover,
+    pub cover: Option<u8>,
     pub params: Params,
     pub given: Given,
     pub row: Row,
@@ -71,7 +70,7 @@ fn blank() -> Fields
 {
     Fields {
         kind: records::NO_KIND,
-        cover: Cover::Unasked,
+        cover: None,
         params: no_params(),
         given: no_given(),
         row: no_row(),
@@ -79,7 +78,7 @@ fn blank() -> Fields
     }
 }
 
-fn of_header(params: Params, given: Given, cover: Cover) -> Fields
+fn of_header(params: Params, given: Given, cover: Option<u8>) -> Fields
     ensures { result ≡ header_fields params given cover }
 {
     Fields {
@@ -97,7 +96,7 @@ fn of_order(row: Row) -> Fields
 {
     Fields {
         kind: records::ORDER,
-        cover: Cover::Unasked,
+        cover: None,
         params: no_params(),
         given: no_given(),
         row,
@@ -110,7 +109,7 @@ fn of_call(call: CallRecord) -> Fields
 {
     Fields {
         kind: records::CALL,
-        cover: Cover::Unasked,
+        cover: None,
         params: no_params(),
         given: no_given(),
         row: no_row(),
@@ -118,43 +117,22 @@ fn of_call(call: CallRecord) -> Fields
     }
 }
 
-fn no_params() -> Params
+pub(crate) fn no_params() -> Params
     ensures { result ≡ blank_params }
 {
-    Params {
-        reveal_end: 0,
-        rofr_window: 0,
-        settle_deadline: 0,
-        max_cash: 0,
-        min_reveals: 0,
-        forced: false,
-        rofr_authority: [0; 32],
-    }
+    Params::default()
 }
 
-fn no_given() -> Given
+pub(crate) fn no_given() -> Given
     ensures { result ≡ blank_given }
 {
-    Given {
-        mark: false,
-        reserve: 0,
-        reference: 0,
-        policy: 0,
-        band_bps: 0,
-    }
+    Given::default()
 }
 
 fn no_row() -> Row
     ensures { result ≡ blank_row }
 {
-    Row {
-        owner: [0; 32],
-        side: 0,
-        escrowed: 0,
-        revealed: false,
-        limit: 0,
-        qty: 0,
-    }
+    Row::default()
 }
 
 fn params_of(rec: &[u8]) -> Params
@@ -196,12 +174,12 @@ fn given_of(rec: &[u8]) -> Given
 }
 
 // What a header asks of escrows: `SI` has one byte more than `SH`.
-fn cover_of(mark: Mark, rec: &[u8]) -> Cover
+fn cover_of(mark: Mark, rec: &[u8]) -> Option<u8>
     ensures { result ≡ (fields_in (fields_of mark rec.now)).cover }
 {
     match mark {
-        Mark::SI => Cover::Decimals(reading::u8_at(rec, 94)),
-        _ => Cover::Unasked,
+        Mark::SI => Some(reading::u8_at(rec, 94)),
+        _ => None,
     }
 }
 

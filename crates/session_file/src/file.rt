@@ -7,20 +7,18 @@ ghost use Rattle.events.specs.declared.Event.TheVariants.{Opened, Refused};
 ghost use Rattle.session_file.specs.Parts.{first_place};
 ghost use Rattle.session_file.specs.Steps.{place_after, early_refusal, step_of, said_all};
 
-use crate::fields::Fields;
+use crate::fields::{self, Fields};
 use crate::records;
 use auction_engine::{Answer, Session, opening};
 use book::{Given, Params};
-use escrow::Cover;
 use events::{Event, EventPair, Events};
-use laws::checks::both;
 
 // Where a file stands: the place of its next record, the kind of the record before, and what its header asks of escrows.
 #[derive(Clone, Copy, Drop)]
 pub struct Place {
     pub at: usize,
     pub stage: u8,
-    pub cover: Cover,
+    pub cover: Option<u8>,
 }
 
 // Before the first record.
@@ -30,7 +28,7 @@ pub(crate) fn first_place() -> Place
     Place {
         at: 0,
         stage: records::NO_KIND,
-        cover: Cover::Unasked,
+        cover: None,
     }
 }
 
@@ -54,7 +52,7 @@ pub(crate) fn place_after(place: Place, f: Fields, width: usize, ends: bool, end
 }
 
 // What is asked of escrows after a record of that kind: a header says it anew.
-fn asked(kind: u8, by_record: Cover, before: Cover) -> Cover
+fn asked(kind: u8, by_record: Option<u8>, before: Option<u8>) -> Option<u8>
     ensures { result ≡ (if kind == header_kind then by_record else before) }
 {
     if kind == records::HEADER {
@@ -64,26 +62,11 @@ fn asked(kind: u8, by_record: Cover, before: Cover) -> Cover
 }
 
 // The session before the header: nobody sees it.
+#[tactic(auto, unfolding(crate::specs::File::unopened))]
 pub(crate) fn unopened() -> Session
     ensures { result ≡ unopened }
 {
-    let params = Params {
-        reveal_end: 0,
-        rofr_window: 0,
-        settle_deadline: 0,
-        max_cash: 0,
-        min_reveals: 0,
-        forced: false,
-        rofr_authority: [0; 32],
-    };
-    let given = Given {
-        mark: false,
-        reserve: 0,
-        reference: 0,
-        policy: 0,
-        band_bps: 0,
-    };
-    Session::new(params, given)
+    Session::new(fields::no_params(), fields::no_given())
 }
 
 // What is to be done with a record.
@@ -98,6 +81,7 @@ pub struct Step {
 }
 
 // By what reading refuses, the fields, and what refuses the change. A refused order ends the file; a refused call lets it go on.
+#[tactic(auto, unfolding(crate::specs::Steps::step_of))]
 pub(crate) fn step_of(refusal: u8, f: Fields, changing: u8) -> Step
     ensures { result ≡ step_of refusal f changing }
 {
@@ -118,26 +102,22 @@ pub(crate) fn step_of(refusal: u8, f: Fields, changing: u8) -> Step
     }
     Step {
         refusal: changing,
-        ends: both(f.kind == records::ORDER, changing != 0),
+        ends: (f.kind == records::ORDER) & (changing != 0),
         opens: false,
     }
 }
 
 // What ends the file before the session is looked at: the reading's refusal, the header's row, or 4 of a call's own arguments.
+#[tactic(auto, unfolding(crate::specs::Steps::early_refusal, laws::specs::Checks::first_of))]
 fn early_refusal(refusal: u8, f: Fields) -> u8
     ensures { result ≡ early_refusal refusal f }
 {
     if refusal != 0 {
         return refusal;
     }
-    let kind = f.kind;
-    let params = f.params;
-    let given = f.given;
-    let cover = f.cover;
-    let call = f.call;
-    match kind {
-        1 => opening::header_refusal(params, given, cover),
-        3 => auction_engine::arguments_refusal(call),
+    match f.kind {
+        1 => refusals::number_of(opening::header_refusal(&f.params, &f.given, f.cover)),
+        3 => refusals::number_of(auction_engine::arguments_refusal(f.call)),
         _ => 0,
     }
 }

@@ -60,7 +60,7 @@ fn run_file(input: &[u8], out: &mut [u8]) -> Result<usize, Refusal>
         let r = fields::record_at(input, place);
         let f = r.fields;
         let cover = place.cover;
-        let change = session.change(f.kind == records::ORDER, cover, f.row, f.call);
+        let change = session.change(f.kind == records::ORDER, cover, &f.row, f.call);
         let step = file::step_of(r.refusal, f, change.refusal);
         let written = if step.refusal != 0 {
             listing::put_pair(&mut out[at..], number, file::refused(step.refusal))

@@ -69,8 +69,10 @@ pub fn put_next(input: &[u8], s: Cursor, out: &mut [u8]) -> Part
     if written.is_err() {
         return Part { written, cursor: s };
     }
-    let cursor = next.cursor;
-    Part { written, cursor }
+    Part {
+        written,
+        cursor: next.cursor,
+    }
 }
 
 // What is said next, if anything but the last line, and where the listing then stands.
@@ -118,8 +120,7 @@ fn record_next(input: &[u8], s: Cursor) -> Next
     let session = s.session;
     let r = fields::record_at(input, place);
     let f = r.fields;
-    let cover = place.cover;
-    let change = session.change(f.kind == records::ORDER, cover, f.row, f.call);
+    let change = session.change(f.kind == records::ORDER, place.cover, &f.row, f.call);
     let step = file::step_of(r.refusal, f, change.refusal);
     let handled = handle(session, step, change, f);
     let said = handled.said;

@@ -6,8 +6,9 @@ ghost use Rattle.session_file.specs.Marks.{mark_of, shape_of, in_place};
 ghost use Rattle.session_file.specs.Reads.{flags_refusal};
 ghost use Rattle.session_file.specs.Heads.{shape_in, flags_in, head_at};
 
-use laws::checks::{both, first_of, unless};
+use laws::checks::{first_of, unless};
 use octets::reading;
+use refusals::Refusal;
 
 // What a mark says.
 #[derive(Clone, Copy, Drop)]
@@ -101,13 +102,14 @@ fn shaped(kind: u8, width: usize, flags: usize, first: usize, second: usize) -> 
 }
 
 // One header first, then orders, then calls.
+#[tactic(auto, unfolding(crate::specs::Marks::in_place))]
 fn in_place(before: u8, kind: u8) -> bool
     ensures { result ≡ in_place before kind }
 {
     if kind == HEADER {
         return before == NO_KIND;
     }
-    both(0 < before, before <= kind)
+    (0 < before) & (before <= kind)
 }
 
 // The head of a record: what refuses it, its mark, its kind and its width.
@@ -126,10 +128,10 @@ pub fn head_of(rest: &[u8], before: u8) -> Head
     let mark = mark_of(reading::u16_at(rest, 0));
     let s = shape_of(mark);
     let width = s.width;
-    let whole = unless(2 <= rest.len(), refusals::NO_RECORD);
-    let known = unless(0 < s.kind, refusals::UNKNOWN_MARK);
-    let place = unless(in_place(before, s.kind), refusals::OUT_OF_ORDER);
-    let body = unless(width <= rest.len(), refusals::NO_RECORD);
+    let whole = unless(2 <= rest.len(), Refusal::NoRecord);
+    let known = unless(0 < s.kind, Refusal::UnknownMark);
+    let place = unless(in_place(before, s.kind), Refusal::OutOfOrder);
+    let body = unless(width <= rest.len(), Refusal::NoRecord);
     let flags = flags_refusal(own_bytes(rest, width), s);
     let refusal = first_of(
         whole,
@@ -181,5 +183,5 @@ fn flags_refusal(rec: &[u8], s: Shape) -> u8
 fn flag_refusal(rec: &[u8], at: usize) -> u8
     ensures { result ≡ unless (nat_le (word 1 rec.now at) 1) 4 }
 {
-    unless(reading::u8_at(rec, at) <= 1, refusals::BAD_FIELD)
+    unless(reading::u8_at(rec, at) <= 1, Refusal::BadField)
 }

@@ -92,7 +92,7 @@ fn cleared_in(block: &[u8]) -> Cleared
 fn orders_in(block: &[u8]) -> [Order; Session::MAX_ORDERS]
     ensures { result ≡ table (order_in block.now) max_orders }
 {
-    let mut orders = [Order::empty(); Session::MAX_ORDERS];
+    let mut orders = [Order::default(); Session::MAX_ORDERS];
     for i in 0..Session::MAX_ORDERS {
         orders[i] = order_in(block, i);
     }
@@ -124,7 +124,7 @@ fn order_in(block: &[u8], i: usize) -> Order
 fn fills_in(block: &[u8]) -> [Fill; Session::MAX_FILLS]
     ensures { result ≡ table (fill_in block.now) max_fills }
 {
-    let mut fills = [Fill::empty(); Session::MAX_FILLS];
+    let mut fills = [Fill::default(); Session::MAX_FILLS];
     for i in 0..Session::MAX_FILLS {
         fills[i] = fill_in(block, i);
     }

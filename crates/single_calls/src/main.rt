@@ -34,16 +34,14 @@ fn run(rt: &impl Print, block: &[u8]) {
     let session = image::session_in(block);
     let call = image::call_in(block);
     let answer = session.apply(call);
-    let events = answer.events;
-    let after = answer.session;
     text::say(rt, answer.refusal);
     text::say(rt, "|");
     if answer.refusal == 0 {
-        text::put_events(rt, events);
+        text::put_events(rt, &answer.events);
     }
     text::say(rt, "|");
     if text::is_shown(answer.refusal) {
-        text::put_session(rt, after);
+        text::put_session(rt, &answer.session);
     }
     text::say(rt, "\n");
 }

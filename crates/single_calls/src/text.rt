@@ -1,11 +1,11 @@
 // The words of an answer. What a function writes is free in its contract: no contract can say what is written, and the comparison reads every
 // byte of it.
-ghost use Rattle.std.specs.Prelude.{◌≡◌, not, ◌||◌, ◌<◌, ◌==◌};
-ghost use Rattle.events.specs.Events.{max_events};
+ghost use Rattle.std.specs.Prelude.{◌≡◌, not, ◌||◌, ◌==◌};
 
 use auction_engine::Session;
 use book::{Fill, Order};
 use events::{Event, Events, Print};
+use refusals::Refusal;
 use std::fmt::Display;
 use std::io::Print as Output;
 
@@ -20,11 +20,7 @@ fn field(rt: &impl Output, n: u64) {
 }
 
 fn flag(rt: &impl Output, b: bool) {
-    if b {
-        say(rt, " 1");
-    } else {
-        say(rt, " 0");
-    }
+    field(rt, u64::from(b));
 }
 
 fn key(rt: &impl Output, bytes: &[u8]) {
@@ -42,33 +38,20 @@ fn hex(rt: &impl Output, byte: u8) {
 pub fn is_shown(refusal: u8) -> bool
     ensures { result ≡ not (refusal == 9 || refusal == 4) }
 {
-    if refusal == refusals::OVER_LIMIT {
-        return false;
-    }
-    refusal != refusals::BAD_FIELD
+    refusal != Refusal::OverLimit.number() && refusal != Refusal::BadField.number()
 }
 
 // The events of an accepted call, or `none`.
-pub fn put_events(rt: &impl Output, events: Events) {
+pub fn put_events(rt: &impl Output, events: &Events) {
     if events.count == 0 {
         say(rt, "none");
     }
-    for i in 0..events::MAX_EVENTS {
-        if i < events.count {
-            put_event_after(rt, i, events);
+    for (i, line) in events.lines.iter().take(events.count).enumerate() {
+        if 0 < i {
+            say(rt, ";");
         }
+        put_event(rt, line.event);
     }
-}
-
-fn put_event_after(rt: &impl Output, i: usize, events: Events)
-    requires { i < max_events }
-{
-    if 0 < i {
-        say(rt, ";");
-    }
-    let line = events.lines[i];
-    let e = line.event;
-    put_event(rt, e);
 }
 
 fn put_event(rt: &impl Output, e: Event) {
@@ -139,7 +122,7 @@ fn put_four(rt: &impl Output, word: &str, a: u64, b: u64, c: u64, d: u64) {
     field(rt, d);
 }
 
-pub fn put_session(rt: &impl Output, s: Session) {
+pub fn put_session(rt: &impl Output, s: &Session) {
     say(rt, s.phase);
     field(rt, s.cleared.clear_price);
     field(rt, s.cleared.cleared_volume);
@@ -154,20 +137,14 @@ pub fn put_session(rt: &impl Output, s: Session) {
     put_fills(rt, s);
 }
 
-fn put_orders(rt: &impl Output, s: Session) {
-    let orders = s.orders;
-    for i in 0..Session::MAX_ORDERS {
-        if i < s.order_count {
-            let o = orders[i];
-            put_order(rt, o);
-        }
+fn put_orders(rt: &impl Output, s: &Session) {
+    for o in s.orders.iter().take(s.order_count) {
+        put_order(rt, o);
     }
 }
 
-fn put_order(rt: &impl Output, o: Order) {
-    let owner = o.owner;
-    let id = o.investor_id;
-    key(rt, &owner);
+fn put_order(rt: &impl Output, o: &Order) {
+    key(rt, &o.owner);
     field(rt, o.side as u64);
     field(rt, o.escrowed);
     flag(rt, o.revealed);
@@ -177,24 +154,18 @@ fn put_order(rt: &impl Output, o: Order) {
     field(rt, o.alloc_left);
     flag(rt, o.screened);
     flag(rt, o.eligible);
-    key(rt, &id);
+    key(rt, &o.investor_id);
 }
 
-fn put_fills(rt: &impl Output, s: Session) {
-    let fills = s.fills;
-    for i in 0..Session::MAX_FILLS {
-        if i < s.fill_count {
-            let f = fills[i];
-            put_fill(rt, f);
-        }
+fn put_fills(rt: &impl Output, s: &Session) {
+    for f in s.fills.iter().take(s.fill_count) {
+        put_fill(rt, f);
     }
 }
 
-fn put_fill(rt: &impl Output, f: Fill) {
-    let buyer = f.buyer;
-    let seller = f.seller;
-    key(rt, &buyer);
-    key(rt, &seller);
+fn put_fill(rt: &impl Output, f: &Fill) {
+    key(rt, &f.buyer);
+    key(rt, &f.seller);
     field(rt, f.qty);
     flag(rt, f.rofr);
     flag(rt, f.settled);

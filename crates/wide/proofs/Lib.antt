@@ -1,7 +1,4 @@
 -- Laws of two-word numbers.
-pub mod Laws
-pub mod Words
 pub mod Columns
 pub mod Length
 pub mod Long
-pub mod Quotient

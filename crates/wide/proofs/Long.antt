@@ -1,36 +1,15 @@
 -- Laws of long division in binary.
 -- Assumes nothing.
-use Rattle.std.proofs.Common.{◌≡◌, ℕ, zero, ◌+◌, ◌-◌, ◌*◌, ◌/◌, ◌%◌, ◌^◌, ◌<◌, ◌≤◌, sym, ap, ◌∙◌, subst, mul-le-mul_right, mul_assoc, suc-mul, mul_comm, add-mul, add_comm, lt_of_mul-lt-mul_right, div-add-mod', zero-mul, div-one, add-one, arith, pow_pos, pow-add, shr-shr}
+use Rattle.std.proofs.Common.{◌≡◌, ℕ, zero, ◌+◌, ◌-◌, ◌*◌, ◌/◌, ◌%◌, ◌^◌, ◌<◌, ◌≤◌, sym, ap, ◌∙◌, subst, mul_assoc, add_comm, zero-mul, div-one, arith, pow_pos, pow-add, shr-shr}
 use native.Mathlib.Nat.{div-eq_of_lt, add-mul-div_right}
 use lib.Pow.{high}
-use lib.Arith.{digits_lt}
-use Rattle.wide.proofs.Length.{below_length}
+use lib.Arith.{digits_div, digits_mod}
+use Rattle.wide.specs.declared.Division.{Division}
+use Rattle.wide.specs.Divided.{Divided}
 use Rattle.wide.specs.Value.{digits, bit_length}
+use Rattle.wide.proofs.Length.{below_length}
 
-mul_two : (x y : ℕ) → 2 * x * y ≡ 2 * (x * y)
-mul_two x y = mul_assoc 2 x y
-
--- a number of two digits to the base 2 c doubled, and a digit b put behind it
-pub twice : (c h l b : ℕ) → (h * 2 + l / c) * (2 * c) + (l % c * 2 + b) ≡ 2 * (h * (2 * c) + l) + b
-twice c h l b = omega (arith, add-mul (h * 2) (l / c) (2 * c), two_out h (2 * c), two_in (l / c) c, div-add-mod' l c)
-  where
-    two_out : (x y : ℕ) → x * 2 * y ≡ 2 * (x * y)
-    two_out x y = ap (λ (n : ℕ). n * y) (mul_comm x 2) ∙ mul_assoc 2 x y
-
-    two_in : (x y : ℕ) → x * (2 * y) ≡ 2 * (x * y)
-    two_in x y = sym (mul_assoc x 2 y) ∙ two_out x y
-
-pub twice_upper : (c h l b m : ℕ) → 2 * (h * (2 * c) + l) + b < m * (2 * c) → h * 2 + l / c < m
-twice_upper c h l b m s = lt_of_mul-lt-mul_right (2 * c) (omega (arith, twice c h l b))
-
--- an upper digit in the upper half of the digits, or in the lower
-pub half_above : (c h l : ℕ) → c ≤ h → 2 * c * (2 * c) ≤ 2 * (h * (2 * c) + l)
-half_above c h l s = omega (arith, mul_two c (2 * c), mul-le-mul_right (2 * c) s)
-
-pub half_below : (c h l : ℕ) → l < 2 * c → h < c → 2 * (h * (2 * c) + l) ≤ 2 * c * (2 * c)
-half_below c h l f s = omega (arith, mul_two c (2 * c), digits_lt s f)
-
--- a digit of the lower half, and one of the upper
+-- a digit of the lower half
 pub digit_low : (k h l i : ℕ) → i < k → digits k h l / 2 ^ i % 2 ≡ l / 2 ^ i % 2
 digit_low k h l i s =
     let m : ℕ = k - i - 1 in
@@ -46,6 +25,7 @@ digit_low k h l i s =
     even : (a b : ℕ) → (b + a * 2) % 2 ≡ b % 2
     even a b = omega arith
 
+-- a digit of the upper half
 pub digit_high : (k h l i : ℕ) → l < 2 ^ k → k ≤ i → digits k h l / 2 ^ i % 2 ≡ h / 2 ^ (i - k) % 2
 digit_high k h l i f s =
     ap (λ (n : ℕ). n % 2)
@@ -62,29 +42,24 @@ prefix n i p = omega (arith, shr-shr n (i - 1) 1 ∙ ap (λ (x : ℕ). n / 2 ^ x
     again a q = omega arith
 
 module _ (n i : ℕ) where
-  -- before the first digit of n, after one digit more, and after the last
+  -- before the first digit of n
   pub none_yet : (q d r : ℕ) → i ≡ bit_length n → q ≡ 0 → r ≡ 0 → q * d + r ≡ n / 2 ^ i
   none_yet q d r h e f = omega (arith, ap (λ (x : ℕ). x * d) e, zero-mul d, div-eq_of_lt (subst (λ (x : ℕ). n < 2 ^ x) (sym h) (below_length n)))
 
+  -- after one digit more
   pub one_more : (x b : ℕ) → zero < i → x ≡ n / 2 ^ i → b ≡ n / 2 ^ (i - 1) % 2 → 2 * x + b ≡ n / 2 ^ (i - 1)
   one_more x b p e f = omega (arith, prefix n i p)
 
+  -- after the last
   pub all_down : i ≤ 0 → n / 2 ^ i ≡ n
   all_down h = ap (λ (x : ℕ). n / 2 ^ x) (only h) ∙ div-one n
     where
       only : {a : ℕ} → a ≤ 0 → a ≡ 0
       only g = omega arith
 
--- a step: quotient q and remainder r so far, divisor d, next digit b, and s the remainder with b behind it
-module _ (q r d b s : ℕ) (down : s ≡ 2 * r + b) where
-  -- the divisor does not go into s: the quotient's next digit is 0
-  pub digit_zero : (q' : ℕ) → q' ≡ 2 * q + 0 → q' * d + s ≡ 2 * (q * d + r) + b
-  digit_zero q' e = omega (arith, ap (λ (n : ℕ). n * d) e, mul_two q d)
-
-  -- it goes into s: the next digit is 1
-  pub digit_one : (q' r' : ℕ) → d ≤ s → q' ≡ 2 * q + 1 → r' ≡ s - d → q' * d + r' ≡ 2 * (q * d + r) + b
-  digit_one q' r' g e f = omega (arith, mul_two q d, ap (λ (n : ℕ). n * d) e, ap (λ (n : ℕ). n * d) (add-one (2 * q)), suc-mul (2 * q) d)
-
--- and the remainder stays below the divisor
-pub rest_below : (r d b s r' : ℕ) → s ≡ 2 * r + b → r < d → b < 2 → r' ≡ s - d → r' < d
-rest_below r d b s r' down h g e = omega arith
+-- a multiple of d and a remainder below d make n
+pub of_parts : (n d : ℕ) (r : Division) → r.rest < d → r.quotient * d + r.rest ≡ n → Divided n d r
+of_parts n d r h e = record {
+  quotient = sym (digits_div r.quotient h) ∙ ap (λ (x : ℕ). x / d) e;
+  rest = sym (digits_mod r.quotient h) ∙ ap (λ (x : ℕ). x % d) e;
+}

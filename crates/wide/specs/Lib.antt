@@ -1,3 +1,4 @@
 -- Definitions of two-word numbers.
 pub mod Value
+pub mod Divided
 pub mod Partway

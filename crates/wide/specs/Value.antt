@@ -1,16 +1,19 @@
 -- The value of a number of two 64-bit words.
-use Rattle.std.specs.Prelude.{◌≡◌, ℕ, ◌+◌, ◌-◌, ◌*◌, ◌/◌, ◌%◌, ◌^◌, nat_lt}
+use Rattle.std.specs.Prelude.{◌≡◌, if◌then◌else◌, ℕ, ◌+◌, ◌-◌, ◌*◌, ◌/◌, ◌%◌, ◌^◌, ◌<◌, nat_lt, Result, Ok, Err}
+use lib.Arith.{digits_div, digits_mod}
 use Rattle.laws.specs.Search.{first}
-use Rattle.wide.specs.declared.Wide.{Wide}
-use Rattle.wide.specs.declared.Division.{Division}
+use Rattle.wide.specs.declared.TooWide.{TooWide}
 
 -- two digits to the base 2 ^ k
 abbrev pub digits : ℕ → ℕ → ℕ → ℕ
 digits k hi lo = hi * 2 ^ k + lo
 
--- the words are the two digits to the base 2 ^ 64
-unfoldable pub value : Wide → ℕ
-value w = digits 64 w.hi w.lo
+-- the digits are its quotient and its remainder
+pub high_again : (hi lo : ℕ) → lo < 2 ^ 64 → digits 64 hi lo / 2 ^ 64 ≡ hi
+high_again hi lo f = digits_div hi f
+
+pub low_again : (hi lo : ℕ) → lo < 2 ^ 64 → digits 64 hi lo % 2 ^ 64 ≡ lo
+low_again hi lo f = digits_mod hi f
 
 -- one more than the largest value of two words
 unfoldable pub modulus : ℕ
@@ -24,7 +27,6 @@ apart a b = (a - b) + (b - a)
 unfoldable pub bit_length : ℕ → ℕ
 bit_length n = first (λ i. nat_lt n (2 ^ i)) n
 
--- quotient and remainder; by 0, as in `◌/◌` and `◌%◌`, the quotient is 0 and the remainder n
-pub record Divided (n d : ℕ) (r : Division) : Type 0 where
-  pub quotient : value r.quotient ≡ n / d
-  pub rest : value r.rest ≡ n % d
+-- a number in one word, where it fits
+abbrev pub Narrows : ℕ → Result ℕ TooWide → Type 0
+Narrows w r = r ≡ (if nat_lt w (2 ^ 64) then Ok w else Err (record {}))

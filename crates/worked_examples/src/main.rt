@@ -3,7 +3,8 @@
 
 ghost use Rattle.worked_examples.specs.Examples.{All, examples};
 
-use credit_math::allocation::Clearing;
+use credit_math::allocation::{allocate_pro_rata, find_uniform_clear_price};
+use refusals::Refusal;
 use std::fmt::Display;
 
 // The table of the examples that are marked for proof holds.
@@ -140,20 +141,18 @@ fn show_price(
     reference: u64,
 ) {
     say(rt, label);
-    let answer = credit_math::allocation::find_uniform_clear_price(
-        is_buy, limits, qtys, reserve, reference,
-    );
-    match answer {
-        Clearing::Refused(number) => show_refusal(rt, number),
-        Clearing::NoCross => say(rt, ": NoCross"),
-        Clearing::Cross(c) => {
+    match find_uniform_clear_price(is_buy, limits, qtys, reserve, reference) {
+        Err(refusal) => show_refusal(rt, refusal),
+        Ok(None) => say(rt, ": NoCross"),
+        Ok(Some(cross)) => {
             say(rt, ": price ");
-            say(rt, c.clear_price);
-            if wide::fits_word(c.executed_qty) {
-                say(rt, " volume ");
-                say(rt, c.executed_qty.lo);
-            } else {
-                say(rt, " volume above 64 bits");
+            say(rt, cross.clear_price);
+            match u64::try_from(cross.executed_qty) {
+                Ok(volume) => {
+                    say(rt, " volume ");
+                    say(rt, volume);
+                }
+                Err(_) => say(rt, " volume above 64 bits"),
             }
         }
     }
@@ -162,24 +161,24 @@ fn show_price(
 
 fn show_lots(rt: &impl Print, label: &str, total: u64, ids: &[u64], qtys: &[u64], out: &mut [u64]) {
     say(rt, label);
-    let refusal = credit_math::allocation::allocate_pro_rata(total, ids, qtys, out);
-    if refusal != 0 {
-        show_refusal(rt, refusal);
-    } else {
-        say(rt, ":");
-        show_numbers(rt, out);
+    match allocate_pro_rata(total, ids, qtys, out) {
+        Err(refusal) => show_refusal(rt, refusal),
+        Ok(()) => {
+            say(rt, ":");
+            show_numbers(rt, out);
+        }
     }
     say(rt, "\n");
 }
 
 fn show_band(rt: &impl Print, label: &str, price: u64, band_bps: u64) {
     say(rt, label);
-    let band = disclosure::band(price, band_bps);
-    if band.refusal != 0 {
-        show_refusal(rt, band.refusal);
-    } else {
-        say(rt, ":");
-        show_number(rt, band.price);
+    match disclosure::band(price, band_bps) {
+        Err(refusal) => show_refusal(rt, refusal),
+        Ok(price) => {
+            say(rt, ":");
+            show_number(rt, price);
+        }
     }
     say(rt, "\n");
 }
@@ -187,11 +186,11 @@ fn show_band(rt: &impl Print, label: &str, price: u64, band_bps: u64) {
 fn show_count(rt: &impl Print, label: &str, lots: &[u64], sides: &[u8]) {
     say(rt, label);
     let answer = fills::fill_count(lots, sides);
-    if answer.refusal != 0 {
-        show_refusal(rt, answer.refusal);
-    } else {
+    if answer.refusal == 0 {
         say(rt, ":");
         show_number(rt, answer.count);
+    } else {
+        show_refused(rt, answer.refusal);
     }
     say(rt, "\n");
 }
@@ -207,7 +206,11 @@ fn show_number(rt: &impl Print, n: u64) {
     say(rt, n);
 }
 
-fn show_refusal(rt: &impl Print, number: u8) {
+fn show_refusal(rt: &impl Print, refusal: Refusal) {
+    show_refused(rt, refusal.number());
+}
+
+fn show_refused(rt: &impl Print, number: u8) {
     say(rt, ": refused ");
     say(rt, number);
 }

@@ -1,11 +1,10 @@
--- The loop's invariant: the first i bids are copied.
-use Rattle.std.proofs.Common.{◌≡◌, ◌-◌, ◌≤◌}
-use Rattle.order_slices.specs.Entries.{bid_at, copied}
-use Rattle.order_slices.proofs.Columns.{no_bid}
+-- The first i of each array are a field of the first i bids.
+use Rattle.std.proofs.Common.{◌≡◌, length, map, take}
 use Rattle.order_slices.proofs.allocate_pro_rata.Given as goal
 
 abbrev pub invariant-loop-i : goal.invariant-loop-i
-invariant-loop-i l = (l.i ≤ l.n) × (l.copy ≡ copied bid_at no_bid l.bids l.i)
-
-abbrev pub decreases-loop-i : goal.decreases-loop-i
-decreases-loop-i l = l.n - l.i
+invariant-loop-i l = record {
+  ids : take l.i l.ids ≡ map (λ b. b.id) (take l.i l.bids);
+  qtys : take l.i l.qtys ≡ map (λ b. b.qty) (take l.i l.bids);
+  long : (length l.ids ≡ 16) × (length l.qtys ≡ 16);
+}

@@ -1,38 +1,24 @@
--- `auction_engine::Session::exercise_refusal` meets its contract. Stage by stage.
-use mathlib.Core.Path.{sym, ◌∙◌, refl}
+-- `auction_engine::Session::exercise_refusal` meets its contract. All steps before the last passed.
+use Rattle.std.proofs.Common.{sym, ap, ◌∙◌, refl}
 use mir.Facts.{to_z-of_z}
-use Rattle.auction_engine.proofs.Checks.{stops_checked, checked_within, own_decides}
+use Rattle.refusals.specs.Number.{refusal_in}
 use Rattle.auction_engine.specs.Call.{arguments_refusal}
 use Rattle.auction_engine.specs.Engine.{own_refusal}
 use Rattle.auction_engine.specs.Rofr.{exercise_refusal}
 use Rattle.auction_engine.specs.Call as call
+use Rattle.auction_engine.proofs.Checks.{own_decides}
+use Rattle.auction_engine.proofs.Passing.{step_passed}
 use Rattle.auction_engine.proofs.Session.exercise_refusal.Goals as goal
 
-pub returns-then-bad-ne0 : goal.returns-then-bad-ne0
-returns-then-bad-ne0 c =
-    stops_checked c.args.self.now (call.exercise c.args.now c.args.issuer c.args.fill c.args.qty) c.checked-bad.result c.checked-bad.ensures c.if-bad-ne0.true
-
-pub take_refusal-no_fill-requires : goal.take_refusal-no_fill-requires
-take_refusal-no_fill-requires c = (checked_within c.args.self.now (sym c.checked-bad.ensures ∙ c.if-bad-ne0.false)).fills
-
-pub returns : goal.returns
+pub returns-clause-refusal : goal.returns-clause-refusal
 unfolding arguments_refusal own_refusal exercise_refusal
-returns c =
-    own_decides c.args.self.now (call.exercise c.args.now c.args.issuer c.args.fill c.args.qty) c.checked-bad.result c.checked-bad.ensures c.if-bad-ne0.false refl c.first_of-5.result
-    (rw (
-      c.first_of-5.ensures,
-      c.first_of-4.ensures,
-      c.first_of-3.ensures,
-      c.first_of-2.ensures,
-      c.first_of.ensures,
-      c.take_refusal-no_fill.ensures,
-      c.unless-full.ensures,
-      c.unless-nothing.ensures,
-      c.unless-issuers.ensures,
-      c.is_authority.ensures,
-      c.unless-window.ensures,
-      c.before_rofr_end.ensures,
-      c.unless-phase.ensures,
-      c.admits.ensures,
-      to_z-of_z c.ranges.now,
-    ))
+returns-clause-refusal c =
+    let a = c.args in
+    let own =
+    c.take_refusal.ensures.refusal
+    ∙ step_passed _ _ _ c.in_ok-unless-5.was c.unless-5.ensures _
+    ∙ step_passed _ _ _ c.in_ok-unless-4.was c.unless-4.ensures _
+    ∙ step_passed _ _ _ c.in_ok-unless-3.was (rw (c.eq.ensures) at c.unless-3.ensures) _
+    ∙ step_passed _ _ _ c.in_ok-unless-2.was (rw (c.before_rofr_end.ensures, to_z-of_z c.ranges.now) at c.unless-2.ensures) _
+    ∙ step_passed _ _ _ c.in_ok-unless.was (rw (c.admits.ensures) at c.unless.ensures) _ in
+    own_decides a.self.now (call.exercise a.now a.issuer.now a.at a.qty) 0 (ap refusal_in (sym c.in_ok-checked.was) ∙ c.checked.ensures.refusal) refl refl _ own

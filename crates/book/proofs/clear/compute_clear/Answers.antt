@@ -1,12 +1,12 @@
--- `book::clear::compute_clear` meets its contract: its three returns are the cases of a clear.
-use Rattle.book.proofs.Outcomes.{too_few, no_mark, cleared}
+-- The clearing of the live orders is that of the book.
+use Rattle.std.proofs.Common.{arith}
+use Rattle.std.proofs.lemmas.Bool.Decides.{nat_tests}
+use Rattle.book.specs.Clear.{compute_clear}
+use Rattle.book.proofs.Live.{first_live, from_first}
 use Rattle.book.proofs.clear.compute_clear.Goals as goal
 
-pub returns-then-count-least : goal.returns-then-count-least
-returns-then-count-least c = too_few c.args.p c.args.g c.args.orders c.args.n _ c.live_orders-live.ensures.counted _ c.if-count-least.true c.no_lots.ensures
-
-pub returns-then-either : goal.returns-then-either
-returns-then-either c = cleared c.args.p c.args.g c.args.orders c.args.n _ c.live_orders-live.ensures.counted _ c.if-count-least.false _ c.either.ensures _ c.if-either.true c.floor_of.ensures (c.outcome_of.ensures _ _ c.live_orders-live.ensures)
-
-pub returns : goal.returns
-returns c = no_mark c.args.p c.args.g c.args.orders c.args.n _ c.live_orders-live.ensures.counted _ c.if-count-least.false _ c.either.ensures c.if-either.false c.no_lots-2.ensures
+pub returns-then-p-g : goal.returns-then-p-g
+unfolding compute_clear
+returns-then-p-g c =
+    let e = c.clear.ensures c.args.orders.now c.args.n (from_first c.args.orders.now c.args.n (omega arith) (rw c.min.ensures at c.live_orders-live.ensures)) in
+    grind (arith, nat_tests, first_live)

@@ -1,17 +1,21 @@
--- `book::clear::live_orders` meets its contract. The loop's invariant: of the orders passed, the live ones stand one behind the other.
-use native.Mathlib.Omega.{arith}
-use borrow.Author.Rules.{rules}
-use Rattle.book.proofs.Live.{collecting, collecting_more, collected_few, collected}
+-- The live ones of one more order stand one behind the other.
+use Rattle.std.proofs.Common.{◌≡◌, refl, arith}
+use Rattle.std.proofs.lemmas.Grind.{common_steps}
+use Rattle.laws.specs.Sums.{only}
+use Rattle.book.proofs.Live.{collecting, collecting_more, collected}
 use Rattle.book.proofs.clear.live_orders.Goals as goal
 
 pub loop-i-init : goal.loop-i-init
-loop-i-init c = (search rules, search rules, collecting _ _ c.no_orders-live.ensures)
+loop-i-init c = record { few = omega arith; inside = λ k h. absurd (omega arith); gathered = collecting _ refl refl refl refl }
 
 pub loop-i-preserved : goal.loop-i-preserved
 loop-i-preserved c =
-    let w = c.loop-i.invariant.2 in
-    let more = collecting_more _ w _ _ (omega arith) c.is_live.ensures c.place-count.ensures in
-    (omega arith, collected_few _ more, more)
+    let u : c.from-count.result ≡ only c.is_live.result 1 = grind arith in
+    record {
+      few = grind arith;
+      inside = λ k h. grind (arith, common_steps, c.loop-i.invariant.inside k);
+      gathered = collecting_more _ c.loop-i.invariant.gathered _ _ (omega arith) c.is_live.ensures u;
+    }
 
 pub returns : goal.returns
-returns c = collected _ c.loop-i.invariant.2 _ _ c.at_most_orders-m.ensures c.loop-i.invariant.0 c.loop-i-test.false
+returns c = collected _ c.loop-i.invariant.gathered (omega arith) (omega arith)

@@ -1,23 +1,40 @@
--- `investors::exclusion::investor_exclusion` meets its contract: self-trade first, then, for a buy, the cash against the cap.
-use mathlib.Core.Path.{sym, ◌∙◌}
-use mathlib.Core.Bool.{true, false}
-use Rattle.investors.proofs.Excluding.{excludes_self, excludes_sell, excludes_cap}
+-- Self-trade first, then, for a buy, the cash against the cap.
+use Rattle.std.proofs.Common.{◌≡◌, ◌∙◌, arith, le_refl}
+use Rattle.std.proofs.lemmas.Bool.Decides.{nat_tests}
+use Rattle.book.specs.Book.{order_in, no_order}
+use Rattle.investors.specs.Exclusion.{self_trade, cash_of, investor_exclusion}
+use Rattle.investors.proofs.Excluding.{self_trade_counted, cash_counted}
 use Rattle.investors.proofs.exclusion.investor_exclusion.Goals as goal
+use Rattle.investors.proofs.exclusion.investor_exclusion.Goals.{After-trades_itself, After-cash_of, in-Some, in-None}
+
+-- the order's own side and escrow, and whether the investor is on the other side
+facts : (c : After-trades_itself)
+    → (c.match-get.side ≡ ((order_in c.args.orders.now c.args.index).side, (order_in c.args.orders.now c.args.index).escrowed))
+    × (c.trades_itself.result ≡ self_trade c.args.orders.now c.args.order_count c.args.index c.args.id.now)
+facts c =
+    let o = c.get.ensures.lookup.4 (le_refl c.args.index) no_order in
+    let own : c.match-get.side ≡ ((order_in c.args.orders.now c.args.index).side, (order_in c.args.orders.now c.args.index).escrowed) =
+    elim c.match-get.branch [ in-Some w ↦ rw (w.side-is, ← o, w.in-Some.is) | in-None w ↦ rw (w.side-is, ← o, w.in-None.is) ] in
+    (own, c.trades_itself.ensures ∙ self_trade_counted _ _ _ _ _ c.min.ensures c.told-orders _ own)
 
 pub returns-then-trades_itself : goal.returns-then-trades_itself
-returns-then-trades_itself c =
-    excludes_self _ _ _ _ _ _ c.at_most_orders-n.ensures _ c.trades_itself.ensures c.if-trades_itself.true
+unfolding investor_exclusion
+returns-then-trades_itself c = let f = facts (goal.at.returns-then-trades_itself c).After-trades_itself in grind (arith, nat_tests)
 
-pub returns-then-own-ne0 : goal.returns-then-own-ne0
-returns-then-own-ne0 c =
-    excludes_sell _ _ _ _ _ _ c.at_most_orders-n.ensures _ c.trades_itself.ensures _ c.own_of-own.ensures.0 c.if-trades_itself.false c.if-own-ne0.true
+pub returns-then-side-ne0 : goal.returns-then-side-ne0
+unfolding investor_exclusion
+returns-then-side-ne0 c = let f = facts (goal.at.returns-then-side-ne0 c).After-trades_itself in grind (arith, nat_tests)
 
-pub returns-then-less : goal.returns-then-less
-returns-then-less c =
-    excludes_cap _ _ _ _ _ _ c.at_most_orders-n.ensures _ c.trades_itself.ensures _ c.own_of-own.ensures.0 c.if-trades_itself.false c.if-own-ne0.false
-    _ _ true c.cash_of-cash.ensures c.of_word.ensures (sym c.if-less.true ∙ c.less.ensures)
+pub returns-then-lt : goal.returns-then-lt
+unfolding investor_exclusion
+returns-then-lt c =
+    let f = facts (goal.at.returns-then-lt c).After-trades_itself in
+    let s : c.cash_of.result ≡ cash_of c.args.orders.now c.args.order_count c.args.index c.args.id.now = c.cash_of.ensures ∙ cash_counted _ _ _ _ _ c.min.ensures c.told-orders _ f.0 in
+    grind (arith, nat_tests)
 
 pub returns : goal.returns
+unfolding investor_exclusion
 returns c =
-    excludes_cap _ _ _ _ _ _ c.at_most_orders-n.ensures _ c.trades_itself.ensures _ c.own_of-own.ensures.0 c.if-trades_itself.false c.if-own-ne0.false
-    _ _ false c.cash_of-cash.ensures c.of_word.ensures (sym c.if-less.false ∙ c.less.ensures)
+    let f = facts (goal.at.returns c).After-trades_itself in
+    let s : c.cash_of.result ≡ cash_of c.args.orders.now c.args.order_count c.args.index c.args.id.now = c.cash_of.ensures ∙ cash_counted _ _ _ _ _ c.min.ensures c.told-orders _ f.0 in
+    grind (arith, nat_tests)

@@ -8,4 +8,4 @@ returns-then-test c = rw c.if-test.true
 
 pub returns-else-test : goal.returns-else-test
 unfolding unless
-returns-else-test c = rw c.if-test.false
+returns-else-test c = rw (c.if-test.false, c.number.ensures)

@@ -1,0 +1,86 @@
+// The lots of the two sides, laid end to end.
+ghost use Rattle.std.specs.Prelude.{◌≡◌, if◌then◌else◌, ◌-◌, ◌≤◌, ◌==◌, length};
+ghost use Rattle.credit_math.specs.Limits.{max_orders};
+
+// Sides.
+const BUY: u8 = 0;
+
+const SELL: u8 = 1;
+
+// At most 16 lots in book order, each with its side.
+#[derive(Clone, Copy)]
+pub struct Lots<'a> {
+    pub lots: &'a [u64],
+    pub sides: &'a [u8],
+    pub ghost few: { length lots.now ≤ max_orders },
+    pub ghost sides_too: { length sides.now ≡ length lots.now },
+}
+
+// What is left of the lot in hand, and where the lots after it begin.
+#[derive(Clone, Copy, Debug, PartialEq, Eq)]
+struct Hand {
+    left: u64,
+    next: usize,
+}
+
+impl Lots<'_> {
+    ghost use Rattle.fills.specs.FillCount.{fill_count};
+    ghost use Rattle.fills.specs.Steps.{Taken};
+
+    // Lay each side's lots end to end from 0. A fill is what lies between one end of a lot, on either line, and the next: so it takes the smaller
+    // of the two lots in hand off both, as the crank does, and no sum is ever formed. Where one line has run out, a fill is a whole lot.
+    #[tactic(auto, using(crate::proofs::Hands::all_ahead, crate::proofs::Hands::fewer, crate::proofs::Hands::few, crate::proofs::Fills::no_fills), unfolding(crate::specs::Steps::fills_of))]
+    pub fn counted(&self) -> u64
+        ensures { result ≡ fill_count self.now.lots.now self.now.sides.now }
+    {
+        let nothing = Hand { left: 0, next: 0 };
+        let mut buy = self.next_lot(BUY, nothing);
+        let mut sell = self.next_lot(SELL, nothing);
+        let mut count = 0;
+        while (0 < buy.left) | (0 < sell.left) {
+            let bought = Hand {
+                left: less(buy.left, sell.left),
+                next: buy.next,
+            };
+            let sold = Hand {
+                left: less(sell.left, buy.left),
+                next: sell.next,
+            };
+            buy = self.next_lot(BUY, bought);
+            sell = self.next_lot(SELL, sold);
+            count += 1;
+        }
+        count
+    }
+
+    // The hand as it is; where nothing is left in it, with the side's next lot above 0, if there is one.
+    #[tactic(auto, using(crate::proofs::Hands::take_next, crate::proofs::Hands::nothing_ahead), unfolding(crate::specs::Steps::lot_on))]
+    fn next_lot(&self, side: u8, hand: Hand) -> Hand
+        requires { hand.next ≤ length self.now.lots.now }
+        ensures { Taken side self.now.lots.now self.now.sides.now hand result }
+    {
+        let mut now = hand;
+        while now.left == 0 && now.next < self.lots.len() {
+            let i = now.next;
+            now = Hand {
+                left: if self.sides[i] == side {
+                    self.lots[i]
+                } else {
+                    0
+                },
+                next: i + 1,
+            };
+        }
+        now
+    }
+}
+
+// What a fill leaves of a lot, against the other side's; nothing where the other side has none.
+fn less(lot: u64, other: u64) -> u64
+    ensures { result ≡ (if other == 0 then 0 else lot - other) }
+{
+    if other == 0 {
+        return 0;
+    }
+    lot.saturating_sub(other)
+}

@@ -1,2 +1,0 @@
--- What the copied entries come to.
-pub mod Columns
