@@ -5,13 +5,11 @@ pub mod Steps
 pub mod Passing
 pub mod Pairs
 pub mod Answers
-pub mod Places
+pub mod Zeros
 pub mod Lots
 pub mod Clears
 pub mod Fills
 pub mod FillLoop
 pub mod Allocating
 pub mod Prints
-pub mod Records
-pub mod Changing
 pub mod Orders

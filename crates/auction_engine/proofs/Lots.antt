@@ -7,15 +7,10 @@ use native.Mathlib.Omega.{arith}
 use lib.ListN.{get_or, set}
 use lib.Seq.{get_or-set_other}
 use Rattle.book.specs.Book.{order_in}
-use Rattle.std.proofs.Common.{Result, Ok, Err}
-use Rattle.book.specs.Clear.{floor_of, outcome_of}
-use Rattle.book.specs.declared.clear.Cross.{Cross}
-use Rattle.book.specs.declared.clear.Failure.{Failure}
-use Rattle.book.specs.declared.clear.Failure.TheVariants.{TooFewReveals, NoCross, MarkUnavailable, Deadline}
 use Rattle.book.specs.declared.Order.{Order}
 use Rattle.auction_engine.specs.declared.Session.{Session}
-use Rattle.auction_engine.specs.Session.{order_at, remake, at_phase, allocating, failed}
-use Rattle.auction_engine.specs.Clearing.{with_lot, with_lots, cleared_by}
+use Rattle.auction_engine.specs.Session.{order_at, remake}
+use Rattle.auction_engine.specs.Clearing.{with_lot, with_lots}
 
 -- a session with other orders
 abbrev pub reordered : Session → List Order → Session
@@ -40,27 +35,3 @@ module _ (s : Session) (lots : List ℕ) where
   unfolding with_lots
   lots_more i t e =
       ap (λ (u : Session). reordered u (set u.orders i (with_lot (order_at u i) (get_or lots i 0)))) e ∙ rw (add-one i, ahead i i (omega arith))
-
--- the session as the code comes to it, by whether there is a price
-module _ (s : Session) (found : Result Cross Failure) where
-  -- with the figures of the price
-  abbrev pub priced : Cross → (reserve : ℕ) → Session → Session
-  priced c reserve t =
-      remake t
-      (record { clear_price = c.price; cleared_volume = c.volume; reserve_price = reserve; reference_mark = s.given.reference })
-      allocating t.rofr_qty t.fills_settled t.skipped_fills t.orders t.fills t.fill_count
-
-  pub cleared_not : (f : Failure) → found ≡ Err f → at_phase s failed ≡ cleared_by s (outcome_of (Ok found))
-  unfolding cleared_by
-  cleared_not f e = rw e (go f)
-    where
-      go : (f : Failure) → at_phase s failed ≡ cleared_by s (outcome_of (Ok (Err f)))
-      go TooFewReveals = refl
-      go NoCross = refl
-      go MarkUnavailable = refl
-      go Deadline = refl
-
-  pub cleared_all : (c : Cross) → found ≡ Ok c → (i : ℕ) (t : Session) → t ≡ lotted s c.lots i → i ≡ s.order_count
-      → (reserve : ℕ) → reserve ≡ floor_of s.params s.given → priced c reserve t ≡ cleared_by s (outcome_of (Ok found))
-  unfolding cleared_by
-  cleared_all c p i t e l reserve f = rw p (ap (priced c reserve) (e ∙ ap (lotted s c.lots) l) ∙ rw f refl)

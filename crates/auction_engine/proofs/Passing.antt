@@ -1,5 +1,5 @@
 -- The steps of a chain of checks as the code takes them. Assumes nothing.
-use Rattle.std.proofs.Common.{rules, arith, ◌<◌, ◌≡◌, sym, ◌∙◌, Bool, true, false, ℕ, refl}
+use Rattle.std.proofs.Common.{rules, ◌≡◌, sym, ◌∙◌, Bool, true, false, ℕ, refl}
 use Rattle.std.specs.Prelude.{Result, Ok, Err, if◌then◌else◌}
 use Rattle.refusals.specs.Number.{number, refusal_in}
 use Rattle.refusals.specs.declared.Refusal.{Refusal}
@@ -20,7 +20,3 @@ pub step_last : (t : Bool) (x : Refusal) (p : Result Unit Refusal) → p ≡ (if
 unfolding unless
 step_last true x p e = rw e
 step_last false x p e = rw e
-
--- a refusal's number is not 0
-pub not_zero : (r : Refusal) → 0 < number r
-not_zero r = grind arith

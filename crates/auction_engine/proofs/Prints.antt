@@ -30,7 +30,8 @@ use Rattle.disclosure.specs.Disclosure.{max_band, banded, shown, disclose_answer
 use Rattle.events.specs.declared.Print.{Print}
 use Rattle.auction_engine.specs.declared.Session.{Session}
 use Rattle.auction_engine.specs.Session.{fill_at}
-use Rattle.auction_engine.specs.Call.{finish, finish_kind, admits, limits_refusal, fields_refusal, arguments_refusal}
+use Rattle.auction_engine.specs.Call.{finish_kind, admits, limits_refusal, fields_refusal, arguments_refusal}
+use Rattle.auction_engine.specs.declared.Call.TheVariants.{Finish}
 use Rattle.auction_engine.specs.Settlement.{moved_volume, finish_refusal, print_of}
 use Rattle.auction_engine.specs.Engine.{refusal, own_refusal}
 use Rattle.auction_engine.proofs.Checks.{Within, accepted, own_decides}
@@ -57,11 +58,11 @@ pub moved_all : (fills : List Fill) (skipped i sum : ℕ) → Summing 64 (moved_
 moved_all fills skipped i sum s e = rw e at s.is
 
 -- what an accepted finish passed
-pub finish_passed : (s : Session) (now : ℤ) → refusal s (finish now) ≡ 0
+pub finish_passed : (s : Session) (now : ℤ) → refusal s (Finish now) ≡ 0
     → (s.fill_count ≤ max_fills) × (s.given.band_bps ≤ max_band) × (s.given.policy ≤ 3) × (moved_volume s < 2 ^ 64)
 unfolding own_refusal finish_refusal
 finish_passed s now h =
-    let a = accepted s (finish now) h in
+    let a = accepted s (Finish now) h in
     let pending = check_zero _ 24 _ (check_zero _ 9 _ a.own).1 in
     (a.within.fills, a.within.band, a.within.policy, ltb-true _ _ (unless_zero _ 16 pending.1))
 
@@ -83,10 +84,10 @@ module _ (s : Session) (h : s.fill_count ≤ length s.fills) where
 
 -- past all checks of a finish but that of the volume, that one decides
 pub volume_decides : (s : Session) (now : ℤ) (n : ℕ) → (limits_refusal s then fields_refusal s) ≡ 0 → admits s.phase finish_kind ≡ true
-    → every (λ i. (fill_at s i).settled) s.fill_count ≡ true → n ≡ unless (ltb (moved_volume s) (2 ^ 64)) 17 → n ≡ refusal s (finish now)
+    → every (λ i. (fill_at s i).settled) s.fill_count ≡ true → n ≡ unless (ltb (moved_volume s) (2 ^ 64)) 17 → n ≡ refusal s (Finish now)
 unfolding arguments_refusal own_refusal finish_refusal
 volume_decides s now n z a e h =
-    own_decides s (finish now) 0 (sym z) refl refl n
+    own_decides s (Finish now) 0 (sym z) refl refl n
     (h ∙ then_pass _ _ (unless_pass _ 25 e) ∙ then_pass _ _ (unless_pass _ 10 a))
 
 -- what is shown is not refused

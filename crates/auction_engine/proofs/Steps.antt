@@ -5,10 +5,12 @@ use Rattle.refusals.specs.Number.{number}
 use Rattle.laws.specs.Checks.{◌then◌, first_of}
 use Rattle.std.proofs.lemmas.Int.{to_z-of_z}
 use Rattle.auction_engine.specs.declared.Session.{Session}
-use Rattle.auction_engine.specs.Call.{Call, limits_refusal, fields_refusal, arguments_refusal}
+use Rattle.auction_engine.specs.Call.{limits_refusal, fields_refusal, arguments_refusal}
+use Rattle.auction_engine.specs.declared.Call.{Call}
 use Rattle.auction_engine.specs.Engine.{refusal, own_refusal}
 use Rattle.laws.proofs.Checking.{then_assoc}
 use borrow.Author.Tests.{ne_eqb, eq-eqb}
+use lib.Seq.{set-get_or}
 
 -- a chain whose front passes, and one whose front refuses
 pub passed : (m n : ℕ) → m ≡ 0 → (m then n) ≡ n
@@ -33,3 +35,6 @@ pub ruleset steps = (passed, stopped, to_z-of_z)
 
 -- the same of a call
 pub ruleset stages = (passed, stopped, staged, numbered, to_z-of_z)
+
+-- what a call wants that answers by its change: what stands at a place, written there, changes nothing
+pub ruleset kept = (set-get_or, numbered, to_z-of_z)

@@ -1,5 +1,5 @@
 -- Calls, and what is checked of any call before its own row.
-use Rattle.std.specs.Prelude.{Bool, if◌then◌else◌, not, ◌&&◌, ◌||◌, List, ℕ, nat_lt, nat_le, ◌==◌, ℤ}
+use Rattle.std.specs.Prelude.{Bool, if◌then◌else◌, not, ◌&&◌, ◌||◌, ℕ, nat_lt, nat_le, ◌==◌, ℤ}
 use Rattle.std.specs.Int.Signed.{lt_z, le_z}
 use Rattle.laws.specs.Search.{every}
 use Rattle.laws.specs.Lists.{same}
@@ -10,19 +10,9 @@ use Rattle.book.specs.Limits.{max_fills}
 use Rattle.book.specs.Book.{no_investor, buy_side}
 use Rattle.disclosure.specs.Disclosure.{max_band}
 use Rattle.auction_engine.specs.declared.Session.{Session}
+use Rattle.auction_engine.specs.declared.Call.{Call}
+use Rattle.auction_engine.specs.declared.Call.TheVariants.{Screen, Clear, Allocate, Exercise, Close, Settle, Skip, Finish, Expire}
 use Rattle.auction_engine.specs.Session.{order_at}
-
--- the nine calls with their arguments
-pub data Call : Type 0 where
-  screen : (now : ℤ) (order side verdict : ℕ) (has_id : Bool) (id : List ℕ) → Call
-  clear : (now : ℤ) → Call
-  allocate : (now : ℤ) (max_fills : ℕ) → Call
-  exercise : (now : ℤ) (issuer : List ℕ) (fill qty : ℕ) → Call
-  close : (now : ℤ) (caller : List ℕ) → Call
-  settle : (fill : ℕ) → Call
-  skip : (now : ℤ) (fill reason : ℕ) → Call
-  finish : (now : ℤ) → Call
-  expire : (now : ℤ) → Call
 
 -- the kinds of calls, by number
 abbrev pub screen_kind : ℕ
@@ -79,19 +69,19 @@ fields_refusal s =
 
 -- 'or argument': sides and verdicts in their range; 'Without has-id the id is zeros. A passed buy has an id'
 unfoldable pub arguments_refusal : Call → ℕ
-arguments_refusal (screen now i side verdict has_id id) =
+arguments_refusal (Screen now i side verdict has_id id) =
     unless (nat_le side 1) 4
     then unless (nat_le verdict 6) 4
     then unless (has_id || same id no_investor) 4
     then unless (has_id || not (side == buy_side && verdict == 0)) 4
-arguments_refusal (clear now) = 0
-arguments_refusal (allocate now n) = 0
-arguments_refusal (exercise now issuer i q) = 0
-arguments_refusal (close now caller) = 0
-arguments_refusal (settle i) = 0
-arguments_refusal (skip now i reason) = unless (nat_le reason 6) 4
-arguments_refusal (finish now) = 0
-arguments_refusal (expire now) = 0
+arguments_refusal (Clear now) = 0
+arguments_refusal (Allocate now n) = 0
+arguments_refusal (Exercise now issuer i q) = 0
+arguments_refusal (Close now caller) = 0
+arguments_refusal (Settle i) = 0
+arguments_refusal (Skip now i reason) = unless (nat_le reason 6) 4
+arguments_refusal (Finish now) = 0
+arguments_refusal (Expire now) = 0
 
 -- 'Clear and screen run from `reveal_end` up to, without, `settle_deadline`'
 unfoldable pub in_window : Session → (now : ℤ) → Bool

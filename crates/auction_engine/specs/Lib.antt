@@ -10,4 +10,3 @@ pub mod Rofr
 pub mod Settlement
 pub mod Engine
 pub mod Opening
-pub mod Changes

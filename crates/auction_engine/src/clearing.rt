@@ -4,45 +4,35 @@ ghost use Rattle.std.specs.List.{list_all};
 ghost use Rattle.refusals.specs.Number.{refusal_in};
 ghost use Rattle.laws.specs.Checks.{◌then◌};
 ghost use Rattle.credit_math.specs.Limits.{max_orders};
-ghost use Rattle.events.specs.Events.{packed};
 ghost use Rattle.book.specs.Clear.{outcome_of};
-ghost use Rattle.auction_engine.specs.Call as call;
+ghost use Rattle.auction_engine.specs.declared.Call.TheVariants as call;
 ghost use Rattle.auction_engine.specs.Call.{limits_refusal, fields_refusal};
 ghost use Rattle.auction_engine.specs.Clearing.{clear_checks, with_lot, cleared_by, clear_lines};
-ghost use Rattle.auction_engine.specs.Engine.{answer};
-ghost use Rattle.auction_engine.specs.Changes.{change_of};
+ghost use Rattle.auction_engine.specs.Engine.{told, answered, answer};
 
-use crate::changes::Change;
 use crate::{Answer, Cleared, Kind, Phase, Session};
 use book::Order;
 use book::clear::{Outcome, compute_clear, floor_of};
-use events::{Event, Events};
+use events::{Event, FewEvents};
 use refusals::Refusal;
 
 impl Session {
     // Clears the live orders.
-    #[tactic(auto, using(crate::proofs::Clears::clear_within, crate::proofs::Clears::clear_stopped, crate::proofs::Clears::clear_overflows, crate::proofs::Clears::clear_accepted))]
     pub fn clear(self, now: i64) -> Answer
-        ensures { result ≡ answer self (call.clear now) }
+        ensures { answered result ≡ answer self (call.Clear now) }
     {
-        if let Err(refusal) = self.clear_refusal(now) {
-            return Answer::refused(self, refusal);
-        }
-        match compute_clear(&self.params, &self.given, &self.orders, self.order_count) {
-            Err(refusal) => Answer::refused(self, refusal),
-            Ok(found) => self.cleared_by(found),
-        }
+        let mut session = self;
+        let said = session.clear_here(now);
+        Answer::few(session, said)
     }
 
-    // Refused for sure by its window or its phase; else undecided.
-    #[tactic(auto, unfolding(crate::specs::Changes::change_of, laws::specs::Sums::only))]
-    pub(crate) fn clear_change(&self, now: i64) -> Change
-        ensures { result ≡ change_of self.now (call.clear now) }
+    #[tactic(auto, using(crate::proofs::Clears::clearing), unfolding(crate::specs::Engine::answer, crate::specs::Engine::effect, crate::specs::Engine::events))]
+    pub(crate) fn clear_here(&mut self, now: i64) -> Result<FewEvents, Refusal>
+        ensures { told self.new result ≡ answer self.old (call.Clear now) }
     {
-        if self.in_window(now) & crate::admits(self.phase, Kind::Clear) {
-            return self.early(Ok(()));
-        }
-        self.early(self.clear_refusal(now))
+        self.clear_refusal(now)?;
+        let found = compute_clear(&self.params, &self.given, &self.orders, self.order_count)?;
+        Ok(self.cleared_by(&found))
     }
 
     // All checks but the last, 17, which the outcome has.
@@ -56,40 +46,37 @@ impl Session {
         Refusal::ScreeningPending.unless(all_ready(&self.orders[..self.order_count]))
     }
 
-    // A price: its figures and lots, in Allocating; a failure: Failed. Both are written in place: a session is large.
-    #[tactic(auto, using(crate::proofs::Lots::lots_start, crate::proofs::Lots::lots_more, crate::proofs::Lots::cleared_not, crate::proofs::Lots::cleared_all))]
-    fn cleared_by(self, found: Outcome) -> Answer
-        requires { self.order_count ≤ max_orders }
-        ensures { result ≡ record { refusal = 0; session = cleared_by self (outcome_of (Ok found)); events = packed (clear_lines self (outcome_of (Ok found))) } }
+    // A price: its figures and lots, in Allocating; a failure: Failed.
+    #[tactic(auto, using(crate::proofs::Lots::lots_start, crate::proofs::Lots::lots_more), unfolding(crate::specs::Clearing::cleared_by))]
+    fn cleared_by(&mut self, found: &Outcome) -> FewEvents
+        requires { self.old.order_count ≤ max_orders }
+        ensures session { self.new ≡ cleared_by self.old (outcome_of (Ok found.now)) }
+        ensures events { result ≡ clear_lines self.old (outcome_of (Ok found.now)) }
     {
-        let events = self.clear_events(&found);
-        let mut session = self;
+        let events = self.clear_events(found);
         match found {
-            Err(_) => session.phase = Phase::Failed as u8,
+            Err(_) => self.phase = Phase::Failed as u8,
             Ok(cross) => {
-                for i in 0..session.order_count {
-                    session.orders[i] = with_lot(&session.orders[i], cross.lots[i]);
+                for i in 0..self.order_count {
+                    let order = self.orders[i];
+                    self.orders[i] = with_lot(&order, cross.lots[i]);
                 }
-                session.cleared = Cleared {
+                self.cleared = Cleared {
                     clear_price: cross.price,
                     cleared_volume: cross.volume,
                     reserve_price: floor_of(&self.params, &self.given),
                     reference_mark: self.given.reference,
                 };
-                session.phase = Phase::Allocating as u8;
+                self.phase = Phase::Allocating as u8;
             }
         }
-        Answer {
-            refusal: 0,
-            session,
-            events,
-        }
+        events
     }
 
     // The clear, or why it failed, and the change of phase.
-    #[tactic(auto, unfolding(crate::specs::Clearing::clear_lines, events::specs::Events::pushed, events::specs::Events::packed))]
-    fn clear_events(&self, found: &Outcome) -> Events
-        ensures { result ≡ packed (clear_lines self.now (outcome_of (Ok found.now))) }
+    #[tactic(auto, unfolding(crate::specs::Clearing::clear_lines))]
+    fn clear_events(&self, found: &Outcome) -> FewEvents
+        ensures { result ≡ clear_lines self.now (outcome_of (Ok found.now)) }
     {
         let (said, to) = match found {
             Err(failure) => (Event::SessionFailed(*failure as u8), Phase::Failed),
@@ -107,7 +94,7 @@ impl Session {
             from: self.phase,
             to: to as u8,
         };
-        Events::none().push(said).push(moved)
+        FewEvents::two(said, moved)
     }
 }
 

@@ -1,20 +1,21 @@
 // The auction engine from the reveal on: a session, and the nine calls on it.
 #![tactic(auto)]
 
-ghost use Rattle.std.specs.Prelude.{◌≡◌, ◌≤◌};
+ghost use Rattle.std.specs.Prelude.{◌≡◌, ◌≤◌, Ok, IfOk, length};
 ghost use Rattle.refusals.specs.Number.{number, refusal_in};
 ghost use Rattle.laws.specs.Checks.{◌then◌};
 ghost use Rattle.credit_math.specs.Limits.{max_orders};
-ghost use Rattle.auction_engine.specs.Session.{fresh};
-ghost use Rattle.auction_engine.specs.Call.{admits, limits_refusal, fields_refusal, in_window};
-ghost use Rattle.auction_engine.specs.Engine.{refused_by, record_arguments, applied};
-ghost use Rattle.auction_engine.specs.Kinds.{kind_number};
+ghost use Rattle.events.specs.Events.{max_events};
+ghost use Rattle.auction_engine.specs.Session.{fresh, at_phase};
+ghost use Rattle.events.specs.declared.Event.TheVariants.{PhaseChanged};
+ghost use Rattle.auction_engine.specs.Call.{admits, arguments_refusal, limits_refusal, fields_refusal, in_window};
+ghost use Rattle.auction_engine.specs.Engine.{RecordedCall, told, answered, said_by, is_many, is_allocate, answer, refused_by, record_arguments, applied};
+ghost use Rattle.auction_engine.specs.Kinds.{kind_number, phase_number};
 
 use book::{Fill, Given, Order, Params};
-use events::Events;
+use events::{CallEvents, Event, FewEvents};
 use refusals::Refusal;
 
-pub mod changes;
 pub mod clearing;
 mod first_checks;
 pub mod matching;
@@ -89,32 +90,107 @@ pub enum Phase {
     Clearing,
 }
 
-// What a call answers: the number of its refusal or 0, the session that it hands back, and its events.
+// What a call answers: the session that it hands back, and its events, or what refuses it.
 #[derive(Clone, Copy, Drop)]
 pub struct Answer {
-    pub refusal: u8,
     pub session: Session,
-    pub events: Events,
+    pub said: Result<CallEvents, Refusal>,
 }
 
 impl Answer {
     // A refused call hands the session back as it was given, with no event.
-    pub fn refused(session: Session, refusal: Refusal) -> Self
-        ensures { result ≡ refused_by session (number refusal) }
-    {
-        Answer::refused_by_number(session, refusal.number())
-    }
-
-    // The same of a number.
-    pub fn refused_by_number(session: Session, refusal: u8) -> Self
-        ensures { result ≡ refused_by session refusal }
+    fn refused(session: Session, refusal: Refusal) -> Self
+        ensures { answered result ≡ refused_by session (number refusal) }
     {
         Answer {
-            refusal,
             session,
-            events: Events::none(),
+            said: Err(refusal),
         }
     }
+
+    fn few(session: Session, said: Result<FewEvents, Refusal>) -> Self
+        ensures { answered result ≡ told session said }
+    {
+        Answer {
+            session,
+            said: match said {
+                Ok(events) => Ok(events.into()),
+                Err(refusal) => Err(refusal),
+            },
+        }
+    }
+}
+
+// What is said of a call: of an allocate, all its fills may be.
+#[derive(Clone, Copy, Drop)]
+pub enum Said {
+    Few(FewEvents),
+    Many(CallEvents),
+}
+
+impl Said {
+    pub fn as_slice(&self) -> &[Event]
+        ensures events { Ok result.now ≡ said_by (Ok self.now) }
+        ensures few { length result.now ≤ max_events }
+    {
+        match self {
+            Said::Few(events) => events.as_slice(),
+            Said::Many(events) => events.as_slice(),
+        }
+    }
+}
+
+fn all_said(said: Result<Said, Refusal>) -> Result<CallEvents, Refusal>
+    ensures { result ≡ said_by said }
+{
+    match said? {
+        Said::Few(events) => Ok(events.into()),
+        Said::Many(events) => Ok(events),
+    }
+}
+
+// The nine calls with their arguments.
+#[derive(Clone, Copy, Debug, PartialEq, Eq)]
+pub enum Call {
+    Screen {
+        now: i64,
+        order: u8,
+        side: u8,
+        verdict: u8,
+        has_id: bool,
+        id: [u8; 16],
+    },
+    Clear {
+        now: i64,
+    },
+    Allocate {
+        now: i64,
+        max_fills: u8,
+    },
+    Exercise {
+        now: i64,
+        issuer: [u8; 32],
+        fill: u32,
+        qty: u64,
+    },
+    Close {
+        now: i64,
+        caller: [u8; 32],
+    },
+    Settle {
+        fill: u32,
+    },
+    Skip {
+        now: i64,
+        fill: u32,
+        reason: u8,
+    },
+    Finish {
+        now: i64,
+    },
+    Expire {
+        now: i64,
+    },
 }
 
 // The calls, by kind.
@@ -157,36 +233,116 @@ pub struct CallRecord {
     pub reason: u8,
 }
 
-impl Session {
-    // The call that a record says. A kind above 8 is an argument outside its values: 9, then 4. Not put into the loop over a file's records, where few
-    // calls come to it and all would pay for its frame.
-    #[inline(never)]
-    #[tactic(auto, unfolding(crate::specs::Engine::applied, crate::specs::Engine::call_of))]
-    pub fn apply(self, call: CallRecord) -> Answer
-        ensures { result ≡ applied self call }
-    {
-        let kind = call.kind;
-        let id = call.id;
-        let wallet = call.wallet;
-        match kind {
-            0 => self.screen(
-                call.now,
-                call.order,
-                call.side,
-                call.verdict,
-                call.has_id,
+// A kind above 8 is an argument outside its values.
+impl TryFrom<CallRecord> for Call {
+    type Error = Refusal;
+
+    ghost try_from_gives = { RecordedCall };
+
+    #[tactic(auto, using(crate::proofs::Steps::steps), unfolding(crate::specs::Engine::call_of))]
+    fn try_from(call: CallRecord) -> Result<Call, Refusal> {
+        let CallRecord {
+            kind,
+            now,
+            order,
+            side,
+            verdict,
+            has_id,
+            id,
+            max_fills,
+            wallet,
+            fill,
+            qty,
+            reason,
+        } = call;
+        Ok(match kind {
+            SCREEN => Call::Screen {
+                now,
+                order,
+                side,
+                verdict,
+                has_id,
                 id,
-            ),
-            1 => self.clear(call.now),
-            2 => self.allocate(call.now, call.max_fills),
-            3 => self.exercise_rofr(call.now, wallet, call.fill, call.qty),
-            4 => self.close_rofr(call.now, wallet),
-            5 => self.settle(call.fill),
-            6 => self.skip_fill(call.now, call.fill, call.reason),
-            7 => self.finish(call.now),
-            8 => self.expire(call.now),
-            _ => Answer::refused(self, self.no_such_call()),
+            },
+            CLEAR => Call::Clear { now },
+            ALLOCATE => Call::Allocate { now, max_fills },
+            EXERCISE => Call::Exercise {
+                now,
+                issuer: wallet,
+                fill,
+                qty,
+            },
+            CLOSE => Call::Close {
+                now,
+                caller: wallet,
+            },
+            SETTLE => Call::Settle { fill },
+            SKIP => Call::Skip { now, fill, reason },
+            FINISH => Call::Finish { now },
+            EXPIRE => Call::Expire { now },
+            _ => return Err(Refusal::BadField),
+        })
+    }
+}
+
+impl Session {
+    // Any call, made where the session lies: a session is large. A refused call leaves it as it was.
+    pub fn make(&mut self, call: &Call) -> Result<Said, Refusal>
+        ensures said { told self.new (said_by result) ≡ answer self.old call.now }
+        ensures size { IfOk result (λ said. is_many said ≡ is_allocate call.now) }
+    {
+        Ok(Said::Few(match call {
+            Call::Screen {
+                now,
+                order,
+                side,
+                verdict,
+                has_id,
+                id,
+            } => self.screen_here(*now, *order, *side, *verdict, *has_id, id)?,
+            Call::Clear { now } => self.clear_here(*now)?,
+            Call::Allocate { now, max_fills } => {
+                return Ok(Said::Many(self.allocate_here(*now, *max_fills)?));
+            }
+            Call::Exercise {
+                now,
+                issuer,
+                fill,
+                qty,
+            } => self.exercise_here(*now, issuer, *fill, *qty)?,
+            Call::Close { now, caller } => self.close_here(*now, caller)?,
+            Call::Settle { fill } => self.settle_here(*fill)?,
+            Call::Skip { now, fill, reason } => self.skip_here(*now, *fill, *reason)?,
+            Call::Finish { now } => self.finish_here(*now)?,
+            Call::Expire { now } => self.expire_here(*now)?,
+        }))
+    }
+
+    // The call that a record says.
+    #[tactic(auto, unfolding(crate::specs::Engine::applied))]
+    pub fn apply(self, call: CallRecord) -> Answer
+        ensures { answered result ≡ applied self call }
+    {
+        let Ok(call) = Call::try_from(call) else {
+            return Answer::refused(self, self.no_such_call());
+        };
+        let mut session = self;
+        let said = session.make(&call);
+        Answer {
+            session,
+            said: all_said(said),
         }
+    }
+
+    // Another phase, and the event that says so.
+    pub(crate) fn moved_to(&mut self, to: Phase) -> Event
+        ensures session { self.new ≡ at_phase self.old (phase_number to) }
+        ensures event { result ≡ PhaseChanged self.old.phase (phase_number to) }
+    {
+        let from = self.phase;
+        let to = to as u8;
+        self.phase = to;
+        Event::PhaseChanged { from, to }
     }
 
     // What refuses a record of a kind above 8.
@@ -215,16 +371,32 @@ pub(crate) enum Kind {
     Expire,
 }
 
-// 4 where a call's own arguments are outside their values: what ends a file.
-#[tactic(auto, unfolding(laws::specs::Checks::unless, laws::specs::Checks::first_of, crate::specs::Engine::record_arguments, crate::specs::Engine::call_of, crate::specs::Call::arguments_refusal))]
+impl Call {
+    // 4 where a call's own arguments are outside their values: what ends a file.
+    #[tactic(auto, unfolding(laws::specs::Checks::unless, crate::specs::Call::arguments_refusal))]
+    pub fn arguments_refusal(&self) -> Result<(), Refusal>
+        ensures { refusal_in result ≡ arguments_refusal self.now }
+    {
+        match self {
+            Call::Screen {
+                side,
+                verdict,
+                has_id,
+                id,
+                ..
+            } => screening::arguments_refusal(*side, *verdict, *has_id, id),
+            Call::Skip { reason, .. } => Refusal::BadField.unless(*reason <= 6),
+            _ => Ok(()),
+        }
+    }
+}
+
+// The same of a call record.
+#[tactic(auto, unfolding(laws::specs::Checks::unless, laws::specs::Checks::first_of, crate::specs::Engine::record_arguments))]
 pub fn arguments_refusal(call: CallRecord) -> Result<(), Refusal>
     ensures { refusal_in result ≡ record_arguments call }
 {
-    match call.kind {
-        0 => screening::arguments_refusal(call.side, call.verdict, call.has_id, &call.id),
-        6 => Refusal::BadField.unless(call.reason <= 6),
-        kind => Refusal::BadField.unless(kind <= EXPIRE),
-    }
+    Call::try_from(call)?.arguments_refusal()
 }
 
 // Whether a call of that kind is let in at that phase.

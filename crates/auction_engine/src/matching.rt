@@ -5,55 +5,42 @@ ghost use Rattle.refusals.specs.Number.{refusal_in};
 ghost use Rattle.laws.specs.Sums.{only};
 ghost use Rattle.credit_math.specs.Limits.{max_orders};
 ghost use Rattle.book.specs.Limits as limits;
-ghost use Rattle.events.specs.Events.{line_of};
 ghost use Rattle.events.specs.declared.Event.TheVariants.{FillAllocated};
-ghost use Rattle.auction_engine.specs.Call as call;
+ghost use Rattle.auction_engine.specs.declared.Call.TheVariants as call;
 ghost use Rattle.auction_engine.specs.Kinds.{phase_number};
 ghost use Rattle.auction_engine.specs.Matching.{allocate_checks, less_left, due_on, fill_of, done, phase_after};
 ghost use Rattle.auction_engine.specs.NextFill.{next_pair, filled_by};
-ghost use Rattle.auction_engine.specs.Engine.{answer};
-ghost use Rattle.auction_engine.specs.Changes.{early};
+ghost use Rattle.auction_engine.specs.Engine.{told, answered, answer};
 
-use crate::changes::Change;
 use crate::{Answer, Kind, Phase, Session};
 use book::{Fill, Order};
-use events::{Event, Events, Line};
+use events::{CallEvents, Event};
 use refusals::Refusal;
 
 impl Session {
     // At most `max_fills` fills more; the phase moves on once every lot is paired. The clock is not read.
-    #[tactic(auto, using(crate::proofs::Allocating::allocate_refused))]
     pub fn allocate(self, now: i64, max_fills: u8) -> Answer
-        ensures { result ≡ answer self (call.allocate now max_fills) }
+        ensures { answered result ≡ answer self (call.Allocate now max_fills) }
     {
-        if let Err(refusal) = self.allocate_refusal() {
-            return Answer::refused(self, refusal);
-        }
-        let mut r = self.filled_by(max_fills);
-        if r.refusal != 0 {
-            return r;
-        }
-        if !r.session.all_paired() {
-            return r;
-        }
-        let to = self.phase_after();
-        r.events = r.events.push(Event::PhaseChanged {
-            from: self.phase,
-            to: to as u8,
-        });
-        r.session.phase = to as u8;
-        r
+        let mut session = self;
+        let said = session.allocate_here(now, max_fills);
+        Answer { session, said }
     }
 
-    // Refused for sure by its phase; else undecided.
-    #[tactic(auto, unfolding(laws::specs::Sums::only))]
-    pub(crate) fn allocate_change(&self) -> Change
-        ensures { result ≡ early self.now (only (not (call.admits self.now.phase call.allocate_kind)) (allocate_checks self.now)) }
+    #[tactic(auto, using(crate::proofs::Allocating::allocating), unfolding(crate::specs::Engine::answer, crate::specs::Engine::effect, crate::specs::Engine::events, crate::specs::Matching::allocate_effect, crate::specs::Matching::allocate_events))]
+    pub(crate) fn allocate_here(&mut self, now: i64, max_fills: u8) -> Result<CallEvents, Refusal>
+        ensures { told self.new result ≡ answer self.old (call.Allocate now max_fills) }
     {
-        if crate::admits(self.phase, Kind::Allocate) {
-            return self.early(Ok(()));
+        self.allocate_refusal()?;
+        let from = self.phase;
+        let to = self.phase_after() as u8;
+        let mut events = self.filled_by(max_fills)?;
+        if !self.all_paired() {
+            return Ok(events);
         }
-        self.early(self.allocate_refusal())
+        events.push(Event::PhaseChanged { from, to });
+        self.phase = to;
+        Ok(events)
     }
 
     // All checks but the last, 18, which the fills have.
@@ -65,37 +52,32 @@ impl Session {
         Refusal::WrongPhase.unless(crate::admits(self.phase, Kind::Allocate))
     }
 
-    // At most n fills, each written in place: a session is too large to copy for each. 18 where one more is due and no place free.
-    fn filled_by(self, n: u8) -> Answer
-        requires { (self.order_count ≤ max_orders) × (self.fill_count ≤ limits.max_fills) }
-        ensures { result ≡ filled_by self n }
+    // At most n fills; 18, and the session as it was, where one more is due and no place free.
+    fn filled_by(&mut self, n: u8) -> Result<CallEvents, Refusal>
+        requires { (self.old.order_count ≤ max_orders) × (self.old.fill_count ≤ limits.max_fills) }
+        ensures { told self.new result ≡ filled_by self.old n }
     {
-        let mut session = self;
-        let mut events = Events::none();
+        let before = *self;
+        let mut events = CallEvents::none();
         for _ in 0..n {
-            let at = session.fill_count;
-            let Some((b, a)) = session.next_pair() else {
+            let at = self.fill_count;
+            let Some((b, a)) = self.next_pair() else {
                 break;
             };
             if Session::MAX_FILLS <= at {
-                return Answer::refused(self, Refusal::FillsFull);
+                *self = before;
+                return Err(Refusal::FillsFull);
             }
-            let buy = session.orders[b];
-            let sell = session.orders[a];
+            let buy = self.orders[b];
+            let sell = self.orders[a];
             let qty = buy.alloc_left.min(sell.alloc_left);
-            session.orders[b] = less_left(&buy, qty);
-            session.orders[a] = less_left(&sell, qty);
-            session.fills[at] = fill_of(&buy, &sell, qty);
-            session.fill_count = at + 1;
-            let end = events.count;
-            events.lines[end] = fill_line(at, b, a, qty);
-            events.count = end + 1;
+            self.orders[b] = less_left(&buy, qty);
+            self.orders[a] = less_left(&sell, qty);
+            self.fills[at] = fill_of(&buy, &sell, qty);
+            self.fill_count = at + 1;
+            events.push(fill_event(at, b, a, qty));
         }
-        Answer {
-            refusal: 0,
-            session,
-            events,
-        }
+        Ok(events)
     }
 
     // The buy and the sell of the next fill; none is due where a side has nothing left.
@@ -169,16 +151,15 @@ fn fill_of(buy: &Order, sell: &Order, qty: u64) -> Fill
     }
 }
 
-// The line of a fill at a place, between two orders.
-fn fill_line(at: usize, b: usize, a: usize, qty: u64) -> Line
+// What is said of a fill at a place, between two orders.
+fn fill_event(at: usize, b: usize, a: usize, qty: u64) -> Event
     requires { (at < limits.max_fills) × (b < max_orders) × (a < max_orders) }
-    ensures { result ≡ line_of (FillAllocated at b a qty) }
+    ensures { result ≡ FillAllocated at b a qty }
 {
-    let event = Event::FillAllocated {
+    Event::FillAllocated {
         fill: at as u32,
         buy: b as u8,
         sell: a as u8,
         qty,
-    };
-    Line { event }
+    }
 }

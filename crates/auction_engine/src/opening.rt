@@ -7,14 +7,11 @@ ghost use Rattle.laws.specs.Lists.{same};
 ghost use Rattle.laws.specs.Checks.{unless, ◌then◌};
 ghost use Rattle.clock.specs.Clock.{sum_fits};
 ghost use Rattle.book.specs.Book.{no_wallet};
-ghost use Rattle.auction_engine.specs.Opening.{header_refusal, row_refusal, order_refusal};
-ghost use Rattle.auction_engine.specs.Changes.{order_change};
+ghost use Rattle.auction_engine.specs.Opening.{header_refusal, row_refusal, order_refusal, with_order};
 
 use crate::Session;
-use crate::changes::Change;
 use crate::first_checks::check;
 use book::{Given, Order, Params, Row};
-use events::{Event, EventPair};
 use refusals::Refusal;
 
 // 4 a field outside its values; 5 an invalid schedule; 6 no cash cap.
@@ -112,17 +109,15 @@ fn shows_right(row: &Row) -> bool
     }
 }
 
-// What one order more changes, or the number that refuses it.
-pub(crate) fn order_change(s: &Session, cover: Option<u8>, row: &Row) -> Change
-    ensures { result ≡ order_change s.now cover row.now }
+// An order that a file lists, written where the session lies; a refused one leaves it as it was.
+#[tactic(auto, using(crate::proofs::Orders::order_room), unfolding(crate::specs::Opening::with_order))]
+pub fn add_order(s: &mut Session, cover: Option<u8>, row: &Row) -> Result<(), Refusal>
+    ensures refusal { refusal_in result ≡ order_refusal s.old cover row.now }
+    ensures session { s.new ≡ (if order_refusal s.old cover row.now == 0 then with_order s.old row.now else s.old) }
 {
-    if let Err(refusal) = order_refusal(s, cover, row) {
-        return s.unchanged(refusal);
-    }
+    order_refusal(s, cover, row)?;
     let at = s.order_count;
-    let mut c = s.keeping(EventPair::one(Event::Ordered(at as u64)));
-    c.order_at = at;
-    c.order = Order::from(*row);
-    c.order_count = at + 1;
-    c
+    s.orders[at] = Order::from(*row);
+    s.order_count = at + 1;
+    Ok(())
 }

@@ -5,49 +5,45 @@ ghost use Rattle.refusals.specs.Number.{refusal_in};
 ghost use Rattle.laws.specs.Checks.{unless, ◌then◌};
 ghost use Rattle.book.specs.Limits.{max_fills};
 ghost use Rattle.auction_engine.specs.Session.{fill_at, rofr_end};
-ghost use Rattle.auction_engine.specs.Call as call;
+ghost use Rattle.auction_engine.specs.declared.Call.TheVariants as call;
 ghost use Rattle.auction_engine.specs.Rofr.{exercise_effect};
-ghost use Rattle.auction_engine.specs.Engine.{refusal, answer};
-ghost use Rattle.auction_engine.specs.Changes.{change_of};
+ghost use Rattle.auction_engine.specs.Engine.{refusal, told, answered, answer};
 
-use crate::changes::Change;
 use crate::{Answer, Kind, Phase, Session};
 use book::Fill;
-use events::{Event, EventPair, Events};
+use events::{Event, FewEvents};
 use refusals::Refusal;
 
 impl Session {
     // The issuer takes `qty` of a fill at the clearing price, settled at once.
-    #[tactic(auto, using(events::proofs::Packed::push_first), unfolding(crate::specs::Engine::effect, crate::specs::Engine::events, crate::specs::Engine::answer, crate::specs::Rofr::exercise_events))]
     pub fn exercise_rofr(self, now: i64, issuer: [u8; 32], fill: u32, qty: u64) -> Answer
-        ensures { result ≡ answer self (call.exercise now issuer fill qty) }
+        ensures { answered result ≡ answer self (call.Exercise now issuer fill qty) }
+    {
+        let mut session = self;
+        let said = session.exercise_here(now, &issuer, fill, qty);
+        Answer::few(session, said)
+    }
+
+    #[tactic(auto, unfolding(crate::specs::Engine::effect, crate::specs::Engine::events, crate::specs::Engine::answer, crate::specs::Rofr::exercise_events))]
+    pub(crate) fn exercise_here(
+        &mut self,
+        now: i64,
+        issuer: &[u8; 32],
+        fill: u32,
+        qty: u64,
+    ) -> Result<FewEvents, Refusal>
+        ensures { told self.new result ≡ answer self.old (call.Exercise now issuer.now fill qty) }
     {
         let at = fill as usize;
-        if let Err(refusal) = self.exercise_refusal(now, &issuer, at, qty) {
-            return Answer::refused(self, refusal);
-        }
+        self.exercise_refusal(now, issuer, at, qty)?;
         let bought = Event::RofrExercised {
             fill,
             new: self.fill_count as u32,
             qty,
             price: self.cleared.clear_price,
         };
-        Answer {
-            refusal: 0,
-            session: self.with_purchase(issuer, at, qty),
-            events: Events::none().push(bought),
-        }
-    }
-
-    // Refused for sure by its phase or its window; else undecided.
-    #[tactic(auto, using(crate::proofs::Changing::undecided_change, crate::proofs::Changing::sure_change), unfolding(crate::specs::Changes::change_of))]
-    pub(crate) fn exercise_change(&self, now: i64, issuer: &[u8; 32], fill: u32, qty: u64) -> Change
-        ensures { result ≡ change_of self.now (call.exercise now issuer.now fill qty) }
-    {
-        if crate::admits(self.phase, Kind::Exercise) & self.before_rofr_end(now) {
-            return self.early(Ok(()));
-        }
-        self.early(self.exercise_refusal(now, issuer, fill as usize, qty))
+        self.take(issuer, at, qty);
+        Ok(FewEvents::one(bought))
     }
 
     #[tactic(auto, unfolding(laws::specs::Checks::unless, laws::specs::Checks::first_of, crate::specs::Engine::refusal, crate::specs::Engine::own_refusal, crate::specs::Call::arguments_refusal, crate::specs::Rofr::exercise_refusal))]
@@ -58,7 +54,7 @@ impl Session {
         at: usize,
         qty: u64,
     ) -> Result<(), Refusal>
-        ensures refusal { refusal_in result ≡ refusal self.now (call.exercise now issuer.now at qty) }
+        ensures refusal { refusal_in result ≡ refusal self.now (call.Exercise now issuer.now at qty) }
         ensures place { OnOk result ((at < max_fills) × (self.now.fill_count < max_fills) × (qty ≤ (fill_at self.now at).qty)) }
     {
         self.checked()?;
@@ -89,28 +85,22 @@ impl Session {
 
     // The fill is split: the issuer has qty of it, in a fill of its own.
     #[tactic(auto, unfolding(crate::specs::Rofr::exercise_effect))]
-    fn with_purchase(self, issuer: [u8; 32], at: usize, qty: u64) -> Session
-        requires { (at < max_fills) × (self.fill_count < max_fills) × (qty ≤ (fill_at self at).qty) }
-        ensures { result ≡ exercise_effect self issuer at qty }
+    fn take(&mut self, issuer: &[u8; 32], at: usize, qty: u64)
+        requires { (at < max_fills) × (self.old.fill_count < max_fills) × (qty ≤ (fill_at self.old at).qty) }
+        ensures { self.new ≡ exercise_effect self.old issuer.now at qty }
     {
-        let mut session = self;
-        let f = self.fills[at];
-        let seller = f.seller;
+        let seller = self.fills[at].seller;
+        self.fills[at].qty -= qty;
         let new = self.fill_count;
-        session.fills[at] = Fill {
-            qty: f.qty - qty,
-            ..f
-        };
-        session.fills[new] = Fill {
-            buyer: issuer,
+        self.fills[new] = Fill {
+            buyer: *issuer,
             seller,
             qty,
             rofr: true,
             settled: true,
         };
-        session.fill_count = new + 1;
-        session.rofr_qty = self.rofr_qty.saturating_add(qty);
-        session
+        self.fill_count = new + 1;
+        self.rofr_qty = self.rofr_qty.saturating_add(qty);
     }
 
     // Before the end of the issuer's window.
@@ -122,32 +112,26 @@ impl Session {
     }
 
     // Ends the issuer's window: by the authority, or by anybody once it has passed.
-    #[tactic(auto, using(crate::proofs::Changing::made_close))]
     pub fn close_rofr(self, now: i64, caller: [u8; 32]) -> Answer
-        ensures { result ≡ answer self (call.close now caller) }
+        ensures { answered result ≡ answer self (call.Close now caller) }
     {
-        let c = self.close_change(now, &caller);
-        self.made(c)
+        let mut session = self;
+        let said = session.close_here(now, &caller);
+        Answer::few(session, said)
     }
 
-    #[tactic(auto, unfolding(crate::specs::Changes::change_of, crate::specs::Engine::effect, crate::specs::Engine::events, crate::specs::Rofr::close_effect, crate::specs::Rofr::close_events))]
-    pub(crate) fn close_change(&self, now: i64, caller: &[u8; 32]) -> Change
-        ensures { result ≡ change_of self.now (call.close now caller.now) }
+    #[tactic(auto, using(crate::proofs::Steps::kept), unfolding(crate::specs::Engine::answer, crate::specs::Engine::effect, crate::specs::Engine::events, crate::specs::Rofr::close_effect, crate::specs::Rofr::close_events))]
+    pub(crate) fn close_here(&mut self, now: i64, caller: &[u8; 32]) -> Result<FewEvents, Refusal>
+        ensures { told self.new result ≡ answer self.old (call.Close now caller.now) }
     {
-        if let Err(refusal) = self.close_refusal(now, caller) {
-            return self.unchanged(refusal);
-        }
+        self.close_refusal(now, caller)?;
         let closed = Event::RofrClosed(self.rofr_qty);
-        let moved = Event::PhaseChanged {
-            from: self.phase,
-            to: Phase::Settling as u8,
-        };
-        self.phase_change(Phase::Settling, EventPair::two(closed, moved))
+        Ok(FewEvents::two(closed, self.moved_to(Phase::Settling)))
     }
 
     #[tactic(auto, unfolding(laws::specs::Checks::unless, laws::specs::Checks::first_of, crate::specs::Engine::refusal, crate::specs::Engine::own_refusal, crate::specs::Call::arguments_refusal, crate::specs::Rofr::close_refusal))]
     fn close_refusal(&self, now: i64, caller: &[u8; 32]) -> Result<(), Refusal>
-        ensures { refusal_in result ≡ refusal self.now (call.close now caller.now) }
+        ensures { refusal_in result ≡ refusal self.now (call.Close now caller.now) }
     {
         self.checked()?;
         Refusal::WrongPhase.unless(crate::admits(self.phase, Kind::Close))?;

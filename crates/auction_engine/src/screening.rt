@@ -5,17 +5,14 @@ ghost use Rattle.laws.specs.Lists.{same};
 ghost use Rattle.laws.specs.Checks.{unless, ◌then◌};
 ghost use Rattle.credit_math.specs.Limits.{max_orders};
 ghost use Rattle.book.specs.Book.{no_investor};
-ghost use Rattle.events.specs.Events.{event_pair};
 ghost use Rattle.auction_engine.specs.Screening.{exclusion_of, screened_as, screen_lines};
-ghost use Rattle.auction_engine.specs.Engine.{refusal, answer};
-ghost use Rattle.auction_engine.specs.Changes.{change_of};
-ghost use Rattle.auction_engine.specs.Call as call;
+ghost use Rattle.auction_engine.specs.Engine.{refusal, told, answered, answer};
+ghost use Rattle.auction_engine.specs.declared.Call.TheVariants as call;
 
-use crate::changes::Change;
 use crate::first_checks::check;
 use crate::{Answer, Kind, Phase, Session};
 use book::Order;
-use events::{Event, EventPair};
+use events::{Event, FewEvents};
 use investors::exclusion::investor_exclusion;
 use refusals::Refusal;
 
@@ -30,33 +27,32 @@ impl Session {
         has_id: bool,
         id: [u8; 16],
     ) -> Answer
-        ensures { result ≡ answer self (call.screen now order side verdict has_id id) }
+        ensures { answered result ≡ answer self (call.Screen now order side verdict has_id id) }
     {
-        let c = self.screen_change(now, order, side, verdict, has_id, &id);
-        self.made(c)
+        let mut session = self;
+        let said = session.screen_here(now, order, side, verdict, has_id, &id);
+        Answer::few(session, said)
     }
 
-    pub(crate) fn screen_change(
-        &self,
+    #[tactic(auto, using(crate::proofs::Steps::kept), unfolding(crate::specs::Engine::answer, crate::specs::Engine::effect, crate::specs::Engine::events, crate::specs::Screening::screen_effect, crate::specs::Screening::screen_events))]
+    pub(crate) fn screen_here(
+        &mut self,
         now: i64,
         order: u8,
         side: u8,
         verdict: u8,
         has_id: bool,
         id: &[u8; 16],
-    ) -> Change
-        ensures { result ≡ change_of self.now (call.screen now order side verdict has_id id.now) }
+    ) -> Result<FewEvents, Refusal>
+        ensures { told self.new result ≡ answer self.old (call.Screen now order side verdict has_id id.now) }
     {
         let i = order as usize;
-        if let Err(refusal) = self.screen_refusal(now, i, side, verdict, has_id, id) {
-            return self.unchanged(refusal);
-        }
+        self.screen_refusal(now, i, side, verdict, has_id, id)?;
         let exclusion = self.exclusion_of(i, verdict, has_id, id);
-        let mut c = self.keeping(screen_events(self.phase, order, exclusion));
-        c.phase = Phase::Clearing as u8;
-        c.order_at = i;
-        c.order = as_screened(&self.orders[i], exclusion, has_id, id);
-        c
+        let events = screen_events(self.phase, order, exclusion);
+        self.orders[i] = as_screened(&self.orders[i], exclusion, has_id, id);
+        self.phase = Phase::Clearing as u8;
+        Ok(events)
     }
 
     // What any call checks, a session before its arguments, and then the screen's own row.
@@ -70,7 +66,7 @@ impl Session {
         has_id: bool,
         id: &[u8; 16],
     ) -> Result<(), Refusal>
-        ensures refusal { refusal_in result ≡ refusal self.now (call.screen now i side verdict has_id id.now) }
+        ensures refusal { refusal_in result ≡ refusal self.now (call.Screen now i side verdict has_id id.now) }
         ensures place { OnOk result (i < max_orders) }
     {
         self.checked()?;
@@ -129,16 +125,16 @@ fn as_screened(o: &Order, exclusion: u8, has_id: bool, id: &[u8; 16]) -> Order
 }
 
 // The change of phase on the first screen, then the screen.
-fn screen_events(from: u8, order: u8, exclusion: u8) -> EventPair
-    ensures { result ≡ event_pair (screen_lines from order exclusion) }
+fn screen_events(from: u8, order: u8, exclusion: u8) -> FewEvents
+    ensures { result ≡ screen_lines from order exclusion }
 {
     let screened = Event::OrderScreened { order, exclusion };
     if from == Phase::Clearing as u8 {
-        return EventPair::one(screened);
+        return FewEvents::one(screened);
     }
     let moved = Event::PhaseChanged {
         from,
         to: Phase::Clearing as u8,
     };
-    EventPair::two(moved, screened)
+    FewEvents::two(moved, screened)
 }

@@ -1,5 +1,5 @@
 // The calls `settle`, `skip_fill`, `finish` and `expire`. Cash and notes move on the chain.
-ghost use Rattle.std.specs.Prelude.{◌≡◌, false, if◌then◌else◌, not, [], ◌∷◌, ◌<◌, ◌≤◌, nat_lt, ◌==◌, OnOk, IfOk, length};
+ghost use Rattle.std.specs.Prelude.{◌≡◌, if◌then◌else◌, not, List, [], ◌∷◌, ◌<◌, ◌≤◌, nat_lt, ◌==◌, OnOk, IfOk, length};
 ghost use Rattle.std.specs.List.{list_all};
 ghost use Rattle.refusals.specs.Number.{refusal_in};
 ghost use Rattle.laws.specs.Sums.{sum_below, only};
@@ -7,51 +7,46 @@ ghost use Rattle.laws.specs.Bits.{is_set, with_bit};
 ghost use Rattle.laws.specs.Checks.{unless, ◌then◌};
 ghost use Rattle.book.specs.Limits.{max_fills};
 ghost use Rattle.book.specs.Book.{fill_in};
-ghost use Rattle.events.specs.Events.{event_pair};
 ghost use Rattle.events.specs.declared.Event.TheVariants.{FillSettled};
 ghost use Rattle.auction_engine.specs.Session.{order_at, fill_at};
-ghost use Rattle.auction_engine.specs.Call as call;
+ghost use Rattle.auction_engine.specs.declared.Call.TheVariants as call;
 ghost use Rattle.auction_engine.specs.Settlement.{as_settled, print_of};
-ghost use Rattle.auction_engine.specs.Engine.{refusal, answer};
-ghost use Rattle.auction_engine.specs.Changes.{writing, change_of};
+ghost use Rattle.auction_engine.specs.Engine.{refusal, told, answered, answer};
 
-use crate::changes::Change;
 use crate::{Answer, Kind, Phase, Session};
 use book::Fill;
 use book::clear::Failure;
 use disclosure::disclose;
-use events::{Event, EventPair, Print};
+use events::{Event, FewEvents, Print};
 use investors::participants::{distinct_participants, is_skipped};
 use refusals::Refusal;
 use wide::Wide;
 
 impl Session {
     // A fill has moved on the chain.
-    #[tactic(auto, using(crate::proofs::Changing::made_settle))]
     pub fn settle(self, fill: u32) -> Answer
-        ensures { result ≡ answer self (call.settle fill) }
+        ensures { answered result ≡ answer self (call.Settle fill) }
     {
-        let c = self.settle_change(fill);
-        self.made(c)
+        let mut session = self;
+        let said = session.settle_here(fill);
+        Answer::few(session, said)
     }
 
-    #[tactic(auto, unfolding(crate::specs::Changes::change_of, crate::specs::Engine::effect, crate::specs::Engine::events, crate::specs::Settlement::settle_effect, crate::specs::Settlement::settle_events))]
-    pub(crate) fn settle_change(&self, fill: u32) -> Change
-        ensures { result ≡ change_of self.now (call.settle fill) }
+    #[tactic(auto, using(crate::proofs::Steps::kept), unfolding(crate::specs::Engine::answer, crate::specs::Engine::effect, crate::specs::Engine::events, crate::specs::Settlement::settle_effect, crate::specs::Settlement::settle_events))]
+    pub(crate) fn settle_here(&mut self, fill: u32) -> Result<FewEvents, Refusal>
+        ensures { told self.new result ≡ answer self.old (call.Settle fill) }
     {
         let at = fill as usize;
-        if let Err(refusal) = self.settle_refusal(at) {
-            return self.unchanged(refusal);
-        }
-        let f = &self.fills[at];
-        let mut c = self.fill_change(at, settle_events(f, fill, self.cleared.clear_price));
-        c.fills_settled = self.fills_settled.saturating_add(1);
-        c
+        self.settle_refusal(at)?;
+        let events = settle_events(&self.fills[at], fill, self.cleared.clear_price);
+        self.fills[at].settled = true;
+        self.fills_settled = self.fills_settled.saturating_add(1);
+        Ok(events)
     }
 
     #[tactic(auto, unfolding(laws::specs::Checks::unless, laws::specs::Checks::first_of, crate::specs::Engine::refusal, crate::specs::Engine::own_refusal, crate::specs::Call::arguments_refusal, crate::specs::Settlement::settle_refusal))]
     fn settle_refusal(&self, at: usize) -> Result<(), Refusal>
-        ensures refusal { refusal_in result ≡ refusal self.now (call.settle at) }
+        ensures refusal { refusal_in result ≡ refusal self.now (call.Settle at) }
         ensures place { OnOk result (at < max_fills) }
     {
         self.checked()?;
@@ -70,50 +65,35 @@ impl Session {
         Refusal::FillSettled.unless(!self.fills[at].settled)
     }
 
-    // A fill at a place, settled.
-    fn fill_change(&self, at: usize, events: EventPair) -> Change
-        requires { at < max_fills }
-        ensures { result ≡ writing self.now false 0 (order_at self.now 0) at (as_settled (fill_at self.now at)) 0 events }
-    {
-        let mut c = self.keeping(events);
-        c.fill_at = at;
-        c.fill = Fill {
-            settled: true,
-            ..self.fills[at]
-        };
-        c
-    }
-
     // A fill that fails the gate is retired: it counts as done, and nothing moves for it. The clock is not read.
-    #[tactic(auto, using(crate::proofs::Changing::made_skip))]
     pub fn skip_fill(self, now: i64, fill: u32, reason: u8) -> Answer
-        ensures { result ≡ answer self (call.skip now fill reason) }
+        ensures { answered result ≡ answer self (call.Skip now fill reason) }
     {
-        let c = self.skip_change(now, fill, reason);
-        self.made(c)
+        let mut session = self;
+        let said = session.skip_here(now, fill, reason);
+        Answer::few(session, said)
     }
 
-    #[tactic(auto, unfolding(crate::specs::Changes::change_of, crate::specs::Engine::effect, crate::specs::Engine::events, crate::specs::Settlement::skip_effect, crate::specs::Settlement::skip_events))]
-    pub(crate) fn skip_change(&self, now: i64, fill: u32, reason: u8) -> Change
-        ensures { result ≡ change_of self.now (call.skip now fill reason) }
+    #[tactic(auto, using(crate::proofs::Steps::kept), unfolding(crate::specs::Engine::answer, crate::specs::Engine::effect, crate::specs::Engine::events, crate::specs::Settlement::skip_effect, crate::specs::Settlement::skip_events))]
+    pub(crate) fn skip_here(
+        &mut self,
+        now: i64,
+        fill: u32,
+        reason: u8,
+    ) -> Result<FewEvents, Refusal>
+        ensures { told self.new result ≡ answer self.old (call.Skip now fill reason) }
     {
         let at = fill as usize;
-        if let Err(refusal) = self.skip_refusal(now, at, reason) {
-            return self.unchanged(refusal);
-        }
-        let skipped = Event::FillSkipped {
-            fill,
-            qty: self.fills[at].qty,
-            reason,
-        };
-        let mut c = self.fill_change(at, EventPair::one(skipped));
-        c.skipped_fills = with_bit(self.skipped_fills, fill);
-        c
+        self.skip_refusal(now, at, reason)?;
+        let qty = self.fills[at].qty;
+        self.fills[at].settled = true;
+        self.skipped_fills = with_bit(self.skipped_fills, fill);
+        Ok(FewEvents::one(Event::FillSkipped { fill, qty, reason }))
     }
 
     #[tactic(auto, unfolding(laws::specs::Checks::unless, laws::specs::Checks::first_of, crate::specs::Engine::refusal, crate::specs::Engine::own_refusal, crate::specs::Call::arguments_refusal, crate::specs::Settlement::skip_refusal))]
     fn skip_refusal(&self, now: i64, at: usize, reason: u8) -> Result<(), Refusal>
-        ensures refusal { refusal_in result ≡ refusal self.now (call.skip now at reason) }
+        ensures refusal { refusal_in result ≡ refusal self.now (call.Skip now at reason) }
         ensures place { OnOk result (at < max_fills) }
     {
         self.checked()?;
@@ -124,35 +104,26 @@ impl Session {
     }
 
     // Every fill settled or skipped: the print. The clock is not read.
-    #[tactic(auto, using(crate::proofs::Changing::made_finish))]
     pub fn finish(self, now: i64) -> Answer
-        ensures { result ≡ answer self (call.finish now) }
+        ensures { answered result ≡ answer self (call.Finish now) }
     {
-        let c = self.finish_change(now);
-        self.made(c)
+        let mut session = self;
+        let said = session.finish_here(now);
+        Answer::few(session, said)
     }
 
-    #[tactic(auto, unfolding(crate::specs::Changes::change_of, crate::specs::Engine::effect, crate::specs::Engine::events, crate::specs::Settlement::finish_effect, crate::specs::Settlement::finish_events))]
-    pub(crate) fn finish_change(&self, now: i64) -> Change
-        ensures { result ≡ change_of self.now (call.finish now) }
+    #[tactic(auto, using(crate::proofs::Steps::kept), unfolding(crate::specs::Engine::answer, crate::specs::Engine::effect, crate::specs::Engine::events, crate::specs::Settlement::finish_effect, crate::specs::Settlement::finish_events))]
+    pub(crate) fn finish_here(&mut self, now: i64) -> Result<FewEvents, Refusal>
+        ensures { told self.new result ≡ answer self.old (call.Finish now) }
     {
-        match self.print(now) {
-            Err(refusal) => self.unchanged(refusal),
-            Ok(print) => {
-                let said = Event::ClearingPrint(print);
-                let moved = Event::PhaseChanged {
-                    from: self.phase,
-                    to: Phase::Printed as u8,
-                };
-                self.phase_change(Phase::Printed, EventPair::two(said, moved))
-            }
-        }
+        let print = Event::ClearingPrint(self.print(now)?);
+        Ok(FewEvents::two(print, self.moved_to(Phase::Printed)))
     }
 
     // What the finish prints, as the policy discloses it.
     #[tactic(auto, using(crate::proofs::Prints::settled_every), unfolding(laws::specs::Checks::unless, laws::specs::Checks::first_of, crate::specs::Engine::refusal, crate::specs::Engine::own_refusal, crate::specs::Call::arguments_refusal, crate::specs::Settlement::finish_refusal))]
     fn print(&self, now: i64) -> Result<Print, Refusal>
-        ensures refusal { refusal_in result ≡ refusal self.now (call.finish now) }
+        ensures refusal { refusal_in result ≡ refusal self.now (call.Finish now) }
         ensures print { IfOk result (λ print. print ≡ print_of self.now) }
     {
         self.checked()?;
@@ -180,32 +151,26 @@ impl Session {
     }
 
     // Past the deadline the session fails.
-    #[tactic(auto, using(crate::proofs::Changing::made_expire))]
     pub fn expire(self, now: i64) -> Answer
-        ensures { result ≡ answer self (call.expire now) }
+        ensures { answered result ≡ answer self (call.Expire now) }
     {
-        let c = self.expire_change(now);
-        self.made(c)
+        let mut session = self;
+        let said = session.expire_here(now);
+        Answer::few(session, said)
     }
 
-    #[tactic(auto, unfolding(crate::specs::Changes::change_of, crate::specs::Engine::effect, crate::specs::Engine::events, crate::specs::Settlement::expire_effect, crate::specs::Settlement::expire_events))]
-    pub(crate) fn expire_change(&self, now: i64) -> Change
-        ensures { result ≡ change_of self.now (call.expire now) }
+    #[tactic(auto, using(crate::proofs::Steps::kept), unfolding(crate::specs::Engine::answer, crate::specs::Engine::effect, crate::specs::Engine::events, crate::specs::Settlement::expire_effect, crate::specs::Settlement::expire_events))]
+    pub(crate) fn expire_here(&mut self, now: i64) -> Result<FewEvents, Refusal>
+        ensures { told self.new result ≡ answer self.old (call.Expire now) }
     {
-        if let Err(refusal) = self.expire_refusal(now) {
-            return self.unchanged(refusal);
-        }
+        self.expire_refusal(now)?;
         let failed = Event::SessionFailed(Failure::Deadline as u8);
-        let moved = Event::PhaseChanged {
-            from: self.phase,
-            to: Phase::Failed as u8,
-        };
-        self.phase_change(Phase::Failed, EventPair::two(failed, moved))
+        Ok(FewEvents::two(failed, self.moved_to(Phase::Failed)))
     }
 
     #[tactic(auto, unfolding(laws::specs::Checks::unless, laws::specs::Checks::first_of, crate::specs::Engine::refusal, crate::specs::Engine::own_refusal, crate::specs::Call::arguments_refusal, crate::specs::Settlement::expire_refusal))]
     fn expire_refusal(&self, now: i64) -> Result<(), Refusal>
-        ensures { refusal_in result ≡ refusal self.now (call.expire now) }
+        ensures { refusal_in result ≡ refusal self.now (call.Expire now) }
     {
         self.checked()?;
         Refusal::WrongPhase.unless(crate::admits(self.phase, Kind::Expire))?;
@@ -214,13 +179,13 @@ impl Session {
 }
 
 // Nothing is said of a fill that the issuer took whole.
-fn settle_events(f: &Fill, fill: u32, price: u64) -> EventPair
-    ensures { result ≡ event_pair (if f.now.qty == 0 then [] else FillSettled fill f.now.qty price ∷ []) }
+fn settle_events(f: &Fill, fill: u32, price: u64) -> FewEvents
+    ensures { result ≡ (if f.now.qty == 0 then [] else FillSettled fill f.now.qty price ∷ []) }
 {
     if f.qty == 0 {
-        return EventPair::none();
+        return FewEvents::none();
     }
-    EventPair::one(Event::FillSettled {
+    FewEvents::one(Event::FillSettled {
         fill,
         qty: f.qty,
         price,

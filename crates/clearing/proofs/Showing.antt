@@ -13,7 +13,7 @@ use Rattle.octets.proofs.Answers.{answer_small}
 use Rattle.session_file.specs.declared.parts.Cursor.{Cursor}
 use Rattle.session_file.specs.declared.parts.Part.{Part}
 use Rattle.session_file.specs.Parts.{PartPut}
-use Rattle.session_file.specs.PartSteps.{parts_left}
+use Rattle.session_file.proofs.PartByPart.{parts_left}
 use Rattle.session_file.proofs.PartByPart.{parts_fewer}
 
 pub showing_less : (input : List ℕ) {s : Cursor} {r : Part} {before left : List ℕ} → s.ended ≡ false → max_record ≤ length before → PartPut input s r before left

@@ -10,7 +10,9 @@ use Rattle.laws.proofs.Checking.{then_zero, check_zero, unless_zero}
 use Rattle.book.specs.Limits.{max_fills}
 use Rattle.auction_engine.specs.declared.Session.{Session}
 use Rattle.auction_engine.specs.Session.{fill_at, allocating, issuer_rofr, settling}
-use Rattle.auction_engine.specs.Call.{Call, screen, clear, allocate, exercise, close, settle, skip, finish, expire, admits, limits_refusal, fields_refusal, arguments_refusal}
+use Rattle.auction_engine.specs.Call.{admits, limits_refusal, fields_refusal, arguments_refusal}
+use Rattle.auction_engine.specs.declared.Call.{Call}
+use Rattle.auction_engine.specs.declared.Call.TheVariants.{Screen, Clear, Allocate, Exercise, Close, Settle, Skip, Finish, Expire}
 use Rattle.auction_engine.specs.Screening.{screen_refusal}
 use Rattle.auction_engine.specs.Clearing.{outcome, clear_checks, clear_refusal}
 use Rattle.auction_engine.specs.Matching.{overfull, allocate_refusal}
@@ -41,25 +43,25 @@ module _ (s : Session) (c : Call) (e : refusal s c ≡ 0) where
 abbrev pub Early : ℕ → Type 0
 Early phase = admits phase 0 ≡ true
 
-pub early_screen : (s : Session) (now : ℤ) (i side verdict : ℕ) (has_id : Bool) (id : List ℕ) → refusal s (screen now i side verdict has_id id) ≡ 0 → Early s.phase
+pub early_screen : (s : Session) (now : ℤ) (i side verdict : ℕ) (has_id : Bool) (id : List ℕ) → refusal s (Screen now i side verdict has_id id) ≡ 0 → Early s.phase
 unfolding own_refusal screen_refusal
-early_screen s now i side verdict has_id id e = (check_zero _ _ _ (check_zero _ _ _ (own_passes s (screen now i side verdict has_id id) e)).1).0
+early_screen s now i side verdict has_id id e = (check_zero _ _ _ (check_zero _ _ _ (own_passes s (Screen now i side verdict has_id id) e)).1).0
 
-pub early_clear : (s : Session) (now : ℤ) → refusal s (clear now) ≡ 0 → Early s.phase
+pub early_clear : (s : Session) (now : ℤ) → refusal s (Clear now) ≡ 0 → Early s.phase
 unfolding own_refusal clear_refusal admits
-early_clear s now e = (check_zero _ _ _ (check_zero _ _ _ (then_zero (clear_checks s now) (outcome s).refusal (own_passes s (clear now) e)).0).1).0
+early_clear s now e = (check_zero _ _ _ (check_zero _ _ _ (then_zero (clear_checks s now) (outcome s).refusal (own_passes s (Clear now) e)).0).1).0
 
-pub outcome_passes : (s : Session) (now : ℤ) → refusal s (clear now) ≡ 0 → (outcome s).refusal ≡ 0
+pub outcome_passes : (s : Session) (now : ℤ) → refusal s (Clear now) ≡ 0 → (outcome s).refusal ≡ 0
 unfolding own_refusal clear_refusal
-outcome_passes s now e = (then_zero (clear_checks s now) (outcome s).refusal (own_passes s (clear now) e)).1
+outcome_passes s now e = (then_zero (clear_checks s now) (outcome s).refusal (own_passes s (Clear now) e)).1
 
-pub at_allocate : (s : Session) (now : ℤ) (n : ℕ) → refusal s (allocate now n) ≡ 0 → s.phase ≡ allocating
+pub at_allocate : (s : Session) (now : ℤ) (n : ℕ) → refusal s (Allocate now n) ≡ 0 → s.phase ≡ allocating
 unfolding own_refusal allocate_refusal admits
-at_allocate s now n e = eqb-true _ _ (check_zero _ _ _ (own_passes s (allocate now n) e)).0
+at_allocate s now n e = eqb-true _ _ (check_zero _ _ _ (own_passes s (Allocate now n) e)).0
 
-pub not_full : (s : Session) (now : ℤ) (n : ℕ) → refusal s (allocate now n) ≡ 0 → overfull n s ≡ false
+pub not_full : (s : Session) (now : ℤ) (n : ℕ) → refusal s (Allocate now n) ≡ 0 → overfull n s ≡ false
 unfolding own_refusal allocate_refusal
-not_full s now n e = not-true _ (unless_zero _ _ (check_zero _ _ _ (own_passes s (allocate now n) e)).1)
+not_full s now n e = not-true _ (unless_zero _ _ (check_zero _ _ _ (own_passes s (Allocate now n) e)).1)
 
 -- a purchase
 pub record Exercised (s : Session) (issuer : List ℕ) (i q : ℕ) : Type 0 where
@@ -69,10 +71,10 @@ pub record Exercised (s : Session) (issuer : List ℕ) (i q : ℕ) : Type 0 wher
   pub i<n : i < s.fill_count
   pub fits : q ≤ (fill_at s i).qty
 
-pub exercised : (s : Session) (now : ℤ) (issuer : List ℕ) (i q : ℕ) → refusal s (exercise now issuer i q) ≡ 0 → Exercised s issuer i q
+pub exercised : (s : Session) (now : ℤ) (issuer : List ℕ) (i q : ℕ) → refusal s (Exercise now issuer i q) ≡ 0 → Exercised s issuer i q
 unfolding own_refusal exercise_refusal admits
 exercised s now issuer i q e =
-    let a = check_zero _ _ _ (own_passes s (exercise now issuer i q) e) in
+    let a = check_zero _ _ _ (own_passes s (Exercise now issuer i q) e) in
     let b = check_zero _ _ _ (check_zero _ _ _ a.1).1 in
     let c = check_zero _ _ _ (check_zero _ _ _ b.1).1 in
     let d = check_zero _ _ _ c.1 in
@@ -85,9 +87,9 @@ exercised s now issuer i q e =
       fits = leb-true _ _ (unless_zero _ _ f.1);
     }
 
-pub at_close : (s : Session) (now : ℤ) (caller : List ℕ) → refusal s (close now caller) ≡ 0 → s.phase ≡ issuer_rofr
+pub at_close : (s : Session) (now : ℤ) (caller : List ℕ) → refusal s (Close now caller) ≡ 0 → s.phase ≡ issuer_rofr
 unfolding own_refusal close_refusal admits
-at_close s now caller e = eqb-true _ _ (check_zero _ _ _ (own_passes s (close now caller) e)).0
+at_close s now caller e = eqb-true _ _ (check_zero _ _ _ (own_passes s (Close now caller) e)).0
 
 -- a fill that is settled or skipped
 pub record Unsettled (s : Session) (i : ℕ) : Type 0 where
@@ -95,24 +97,24 @@ pub record Unsettled (s : Session) (i : ℕ) : Type 0 where
   pub i<n : i < s.fill_count
   pub free : (fill_at s i).settled ≡ false
 
-pub settles : (s : Session) (i : ℕ) → refusal s (settle i) ≡ 0 → Unsettled s i
+pub settles : (s : Session) (i : ℕ) → refusal s (Settle i) ≡ 0 → Unsettled s i
 unfolding own_refusal settle_refusal admits
 settles s i e =
-    let a = check_zero _ _ _ (own_passes s (settle i) e) in
+    let a = check_zero _ _ _ (own_passes s (Settle i) e) in
     let b = check_zero _ _ _ a.1 in
     record { at = eqb-true _ _ a.0; i<n = ltb-true _ _ b.0; free = not-true _ (unless_zero _ _ b.1) }
 
-pub skips : (s : Session) (now : ℤ) (i reason : ℕ) → refusal s (skip now i reason) ≡ 0 → Unsettled s i
+pub skips : (s : Session) (now : ℤ) (i reason : ℕ) → refusal s (Skip now i reason) ≡ 0 → Unsettled s i
 unfolding own_refusal skip_refusal admits
 skips s now i reason e =
-    let a = check_zero _ _ _ (own_passes s (skip now i reason) e) in
+    let a = check_zero _ _ _ (own_passes s (Skip now i reason) e) in
     let b = check_zero _ _ _ a.1 in
     record { at = eqb-true _ _ a.0; i<n = ltb-true _ _ b.0; free = not-true _ (check_zero _ _ _ b.1).0 }
 
-pub at_finish : (s : Session) (now : ℤ) → refusal s (finish now) ≡ 0 → s.phase ≡ settling
+pub at_finish : (s : Session) (now : ℤ) → refusal s (Finish now) ≡ 0 → s.phase ≡ settling
 unfolding own_refusal finish_refusal admits
-at_finish s now e = eqb-true _ _ (check_zero _ _ _ (own_passes s (finish now) e)).0
+at_finish s now e = eqb-true _ _ (check_zero _ _ _ (own_passes s (Finish now) e)).0
 
-pub at_expire : (s : Session) (now : ℤ) → refusal s (expire now) ≡ 0 → admits s.phase 8 ≡ true
+pub at_expire : (s : Session) (now : ℤ) → refusal s (Expire now) ≡ 0 → admits s.phase 8 ≡ true
 unfolding own_refusal expire_refusal
-at_expire s now e = (check_zero _ _ _ (own_passes s (expire now) e)).0
+at_expire s now e = (check_zero _ _ _ (own_passes s (Expire now) e)).0

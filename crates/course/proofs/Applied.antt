@@ -4,10 +4,11 @@ use mathlib.Core.Bool.{Bool, true, false, cond}
 use mathlib.Core.List.{List, [], ◌∷◌}
 use lib.Dec.{eqb, leb}
 use Rattle.laws.specs.Checks.{◌then◌}
-use Rattle.events.specs.Events.{packed}
 use Rattle.auction_engine.specs.declared.Session.{Session}
 use Rattle.auction_engine.specs.declared.CallRecord.{CallRecord}
-use Rattle.auction_engine.specs.Call.{Call, screen, clear, allocate, exercise, close, settle, skip, finish, expire, expire_kind, limits_refusal}
+use Rattle.auction_engine.specs.Call.{expire_kind, limits_refusal}
+use Rattle.auction_engine.specs.declared.Call.{Call}
+use Rattle.auction_engine.specs.declared.Call.TheVariants.{Screen, Clear, Allocate, Exercise, Close, Settle, Skip, Finish, Expire}
 use Rattle.auction_engine.specs.Engine.{refusal, effect, events, refused_by, answer, call_of, applied}
 use Rattle.course.specs.Course.{Run, begin, note, advance, run}
 use Rattle.course.specs.Applied.{session_after, apply_all, calls_of, RunIsAnswers, ApplyIsRun}
@@ -15,15 +16,15 @@ use Rattle.course.specs.Applied.{session_after, apply_all, calls_of, RunIsAnswer
 -- a noted call hands on its session
 pub note_session : (r : Run) (s : Session) (c : Call) → (note r s c).session ≡ s
 unfolding note
-note_session r s (screen now i side verdict has_id id) = refl
-note_session r s (clear now) = refl
-note_session r s (allocate now n) = refl
-note_session r s (exercise now issuer i q) = refl
-note_session r s (close now caller) = refl
-note_session r s (settle i) = refl
-note_session r s (skip now i reason) = refl
-note_session r s (finish now) = refl
-note_session r s (expire now) = refl
+note_session r s (Screen now i side verdict has_id id) = refl
+note_session r s (Clear now) = refl
+note_session r s (Allocate now n) = refl
+note_session r s (Exercise now issuer i q) = refl
+note_session r s (Close now caller) = refl
+note_session r s (Settle i) = refl
+note_session r s (Skip now i reason) = refl
+note_session r s (Finish now) = refl
+note_session r s (Expire now) = refl
 
 -- a call of a list, noted or refused, leaves the session that it answers
 pub advance_session : (r : Run) (c : Call) → (advance r c).session ≡ (answer r.session c).session
@@ -31,7 +32,7 @@ unfolding advance answer
 advance_session r c = go (eqb (refusal r.session c) 0)
   where
     go : (x : Bool) → (cond x (note r (effect r.session c) c) r).session
-        ≡ (cond x (record { refusal = 0; session = effect r.session c; events = packed (events r.session c) }) (refused_by r.session (refusal r.session c))).session
+        ≡ (cond x (record { refusal = 0; session = effect r.session c; events = events r.session c }) (refused_by r.session (refusal r.session c))).session
     go true = note_session r (effect r.session c) c
     go false = refl
 

@@ -2,10 +2,10 @@
 use mathlib.Core.Path.{refl}
 use Rattle.laws.specs.Sums.{sum_below, count, sum_of}
 use Rattle.laws.specs.Search.{first, every, some}
-use Rattle.laws.specs.Lists.{table, keep, same}
+use Rattle.laws.specs.Lists.{table, keep}
 use Rattle.laws.specs.Sort.{insert, sort, dedup}
 use Rattle.laws.specs.Lex.{lex}
-use Rattle.laws.specs.Checks.{unless, ◌then◌, first_of}
+use Rattle.laws.specs.Checks.{unless, first_of}
 use Rattle.laws.specs.Bits.{bit, with_bit}
 use Rattle.clock.specs.Clock.{sum_fits}
 use Rattle.credit_math.specs.Price.{buy, sell, executed, imbalance, executes, better, candidates, clear_price, price_refusal, find_uniform_clear_price}

@@ -15,7 +15,9 @@ use Rattle.laws.proofs.Checking.{then_both, check_pass, unless_pass}
 use Rattle.book.specs.Book.{no_wallet}
 use Rattle.auction_engine.specs.declared.Session.{Session}
 use Rattle.auction_engine.specs.Session.{allocating, issuer_rofr, settling}
-use Rattle.auction_engine.specs.Call.{Call, screen, clear, allocate, exercise, close, settle, skip, finish, expire, admits, arguments_refusal}
+use Rattle.auction_engine.specs.Call.{admits, arguments_refusal}
+use Rattle.auction_engine.specs.declared.Call.{Call}
+use Rattle.auction_engine.specs.declared.Call.TheVariants.{Screen, Clear, Allocate, Exercise, Close, Settle, Skip, Finish, Expire}
 use Rattle.auction_engine.specs.Matching.{after_fills, allocate_refusal, done, phase_after, matched, allocate_effect}
 use Rattle.auction_engine.specs.Engine.{own_refusal, refusal, effect}
 use Rattle.course.specs.Course.{Run, begin, note, advance, run}
@@ -41,7 +43,7 @@ matched_phase t e = rw e (go (same t.params.rofr_authority no_wallet))
 
 module _ (s : Session) (A : Allotted s) where
   -- while the matching is open no allocate is refused
-  never_refused : (k : ℕ) (now : ℤ) (n : ℕ) → refusal (after_fills k s) (allocate now n) ≡ 0
+  never_refused : (k : ℕ) (now : ℤ) (n : ℕ) → refusal (after_fills k s) (Allocate now n) ≡ 0
   unfolding refusal arguments_refusal own_refusal allocate_refusal admits
   never_refused k now n =
       let t = after_fills k s in
@@ -69,36 +71,36 @@ module _ (s : Session) (A : Allotted s) where
   -- an accepted call other than expire
   goes_on : (r : Run) (c : Call) (k : ℕ) → Going r k → refusal r.session c ≡ 0 → is_expire c ≡ false → On (noted r c) (k + allowance c)
   unfolding note effect allocate_effect
-  goes_on r (screen now i side verdict has_id id) k G e x = absurd (going_late r k G (early_screen r.session now i side verdict has_id id e))
-  goes_on r (clear now) k G e x = absurd (going_late r k G (early_clear r.session now e))
-  goes_on r (allocate now n) k G e x = go (done (after_fills (k + n) s)) refl
+  goes_on r (Screen now i side verdict has_id id) k G e x = absurd (going_late r k G (early_screen r.session now i side verdict has_id id e))
+  goes_on r (Clear now) k G e x = absurd (going_late r k G (early_clear r.session now e))
+  goes_on r (Allocate now n) k G e x = go (done (after_fills (k + n) s)) refl
     where
       w : after_fills n r.session ≡ after_fills (k + n) s
       w = ap (after_fills n) G.is ∙ sym (after_fills_add k n s)
 
-      go : (y : Bool) → done (after_fills (k + n) s) ≡ y → On (noted r (allocate now n)) (k + n)
+      go : (y : Bool) → done (after_fills (k + n) s) ≡ y → On (noted r (Allocate now n)) (k + n)
       go false d = inl (record { is = ap matched w ∙ matched_open (after_fills (k + n) s) d; unfinished = d })
       go true d =
           let p : (matched (after_fills n r.session)).phase ≢ allocating = rw w (matched_phase (after_fills (k + n) s) d) in
           inr (ap (λ y. r.complete || not y) (ne_eqb _ allocating p) ∙ or-true r.complete)
-  goes_on r (exercise now issuer i q) k G e x = absurd (omega (arith, going_at r k G, (exercised r.session now issuer i q e).at))
-  goes_on r (close now caller) k G e x = absurd (omega (arith, going_at r k G, at_close r.session now caller e))
-  goes_on r (settle i) k G e x = absurd (omega (arith, going_at r k G, (settles r.session i e).at))
-  goes_on r (skip now i reason) k G e x = absurd (omega (arith, going_at r k G, (skips r.session now i reason e).at))
-  goes_on r (finish now) k G e x = absurd (omega (arith, going_at r k G, at_finish r.session now e))
-  goes_on r (expire now) k G e x = absurd (false≢true (sym x))
+  goes_on r (Exercise now issuer i q) k G e x = absurd (omega (arith, going_at r k G, (exercised r.session now issuer i q e).at))
+  goes_on r (Close now caller) k G e x = absurd (omega (arith, going_at r k G, at_close r.session now caller e))
+  goes_on r (Settle i) k G e x = absurd (omega (arith, going_at r k G, (settles r.session i e).at))
+  goes_on r (Skip now i reason) k G e x = absurd (omega (arith, going_at r k G, (skips r.session now i reason e).at))
+  goes_on r (Finish now) k G e x = absurd (omega (arith, going_at r k G, at_finish r.session now e))
+  goes_on r (Expire now) k G e x = absurd (false≢true (sym x))
 
   stays_complete : (r : Run) (c : Call) → r.complete ≡ true → is_expire c ≡ false → (noted r c).complete ≡ true
   unfolding note
-  stays_complete r (screen now i side verdict has_id id) h x = h
-  stays_complete r (clear now) h x = h
-  stays_complete r (allocate now n) h x = rw h
-  stays_complete r (exercise now issuer i q) h x = h
-  stays_complete r (close now caller) h x = h
-  stays_complete r (settle i) h x = h
-  stays_complete r (skip now i reason) h x = h
-  stays_complete r (finish now) h x = h
-  stays_complete r (expire now) h x = absurd (false≢true (sym x))
+  stays_complete r (Screen now i side verdict has_id id) h x = h
+  stays_complete r (Clear now) h x = h
+  stays_complete r (Allocate now n) h x = rw h
+  stays_complete r (Exercise now issuer i q) h x = h
+  stays_complete r (Close now caller) h x = h
+  stays_complete r (Settle i) h x = h
+  stays_complete r (Skip now i reason) h x = h
+  stays_complete r (Finish now) h x = h
+  stays_complete r (Expire now) h x = absurd (false≢true (sym x))
 
   accepted_on : (r : Run) (c : Call) (k : ℕ) → On r k → refusal r.session c ≡ 0 → is_expire c ≡ false → On (noted r c) (k + allowance c)
   accepted_on r c k (inl G) e x = goes_on r c k G e x
@@ -106,15 +108,15 @@ module _ (s : Session) (A : Allotted s) where
 
   -- a refused call is no allocate while the matching is open
   refused_none : (r : Run) (c : Call) (k : ℕ) → Going r k → (refusal r.session c ≡ 0 → ⊥) → allowance c ≡ 0
-  refused_none r (screen now i side verdict has_id id) k G e = refl
-  refused_none r (clear now) k G e = refl
-  refused_none r (allocate now n) k G e = absurd (e (rw G.is (never_refused k now n)))
-  refused_none r (exercise now issuer i q) k G e = refl
-  refused_none r (close now caller) k G e = refl
-  refused_none r (settle i) k G e = refl
-  refused_none r (skip now i reason) k G e = refl
-  refused_none r (finish now) k G e = refl
-  refused_none r (expire now) k G e = refl
+  refused_none r (Screen now i side verdict has_id id) k G e = refl
+  refused_none r (Clear now) k G e = refl
+  refused_none r (Allocate now n) k G e = absurd (e (rw G.is (never_refused k now n)))
+  refused_none r (Exercise now issuer i q) k G e = refl
+  refused_none r (Close now caller) k G e = refl
+  refused_none r (Settle i) k G e = refl
+  refused_none r (Skip now i reason) k G e = refl
+  refused_none r (Finish now) k G e = refl
+  refused_none r (Expire now) k G e = refl
 
   refused_on : (r : Run) (c : Call) (k : ℕ) → On r k → (refusal r.session c ≡ 0 → ⊥) → On r (k + allowance c)
   refused_on r c k (inl G) e = inl (rw (refused_none r c k G e, add-zero k) G)

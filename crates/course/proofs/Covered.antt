@@ -24,7 +24,7 @@ use Rattle.escrow.specs.Claims.{Covers}
 use Rattle.escrow.proofs.Covers.{gross_none}
 use Rattle.auction_engine.specs.declared.Session.{Session}
 use Rattle.auction_engine.specs.Session.{order_at, fresh}
-use Rattle.auction_engine.specs.Call.{clear}
+use Rattle.auction_engine.specs.declared.Call.TheVariants.{Clear}
 use Rattle.auction_engine.specs.Clearing.{outcome}
 use Rattle.auction_engine.specs.Opening.{order_refusal, with_order, RowsAccepted, Opening, opened}
 use Rattle.auction_engine.proofs.Orders.{order_room, accepted_covered}
@@ -100,7 +100,7 @@ covered_at_clear s j decimals cover =
     let all = same_rows_covered decimals (opened j.opening) u (calls_rows (opened j.opening) j.calls) (opened_covered decimals j.opening cover) in
     let says = events_say u j.now j.price j.volume j.reserve j.reference j.others j.line in
     let P = clear_has_price u.params u.given u.orders u.order_count (outcome_passes u j.now j.accepted) says.0 in
-    let same : SameRows u s = subst (SameRows u) (sym j.is) (effect_rows u (clear j.now)) in
+    let same : SameRows u s = subst (SameRows u) (sym j.is) (effect_rows u (Clear j.now)) in
     let paid : (i : ℕ) → i < s.order_count → Paid decimals j.price (lot_of j i) (row_of (order_at s i)) =
     λ i l. rw (same.rows i, ← says.1)
     (lot_paid u.params u.given u.orders u.order_count (outcome u).price i decimals (outcome u).volume (outcome u).lots P.lots

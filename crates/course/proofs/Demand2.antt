@@ -20,13 +20,12 @@ use Rattle.book.specs.Claims as book
 use Rattle.book.specs.Claims.{takes_part, has_price, ClearIsRight}
 use Rattle.book.specs.declared.Order.{Order}
 use Rattle.book.proofs.Theorems.{at_price, right_lots, clear_is_right}
-use Rattle.events.specs.Events.{packed}
 use Rattle.auction_engine.specs.declared.Session.{Session}
-use Rattle.auction_engine.specs.declared.Answer.{Answer}
 use Rattle.auction_engine.specs.Session.{order_at}
-use Rattle.auction_engine.specs.Call.{clear, limits_refusal}
+use Rattle.auction_engine.specs.Call.{limits_refusal}
+use Rattle.auction_engine.specs.declared.Call.TheVariants.{Clear}
 use Rattle.auction_engine.specs.Clearing.{outcome, cleared_by, clear_lines}
-use Rattle.auction_engine.specs.Engine.{effect, events, refused_by, answer}
+use Rattle.auction_engine.specs.Engine.{Answered, effect, events, refused_by, answer}
 use Rattle.auction_engine.proofs.Answers.{refused_answer}
 use Rattle.auction_engine.proofs.Clears.{stops_early, outcome_decides}
 use Rattle.course.specs.Demand2.{checks, Clearable, Executes, BestPrice, executed_at, lots_at, fails, clears, Lotted, RightClear, too_few, unmarked, no_crossing, too_large, cleared, Demand2}
@@ -66,9 +65,9 @@ module _ (s : Session) where
 
 module _ (s : Session) (now : ℤ) where
   -- the answer by the outcome, where the checks pass
-  abbrev answered_by : Outcome → Answer
+  abbrev answered_by : Outcome → Answered
   answered_by found =
-      cond (eqb found.refusal 0) (record { refusal = 0; session = cleared_by s found; events = packed (clear_lines s found) }) (refused_by s found.refusal)
+      cond (eqb found.refusal 0) (record { refusal = 0; session = cleared_by s found; events = clear_lines s found }) (refused_by s found.refusal)
 
   fails_is : (reason : ℕ) → reason ≢ 0 → answered_by (failed_by reason) ≡ fails s reason
   unfolding cleared_by clear_lines
@@ -79,29 +78,29 @@ module _ (s : Session) (now : ℤ) where
   clears_is price = refl
 
   module _ (z : checks s now ≡ 0) where
-    answered : answer s (clear now) ≡ answered_by (outcome s)
+    answered : answer s (Clear now) ≡ answered_by (outcome s)
     unfolding answer effect events
     answered = rw (← outcome_decides s now 0 (sym z) refl (outcome s) refl)
 
-    found : (o : Outcome) → o ≡ outcome s → answer s (clear now) ≡ answered_by o
+    found : (o : Outcome) → o ≡ outcome s → answer s (Clear now) ≡ answered_by o
     found o e = answered ∙ ap answered_by (sym e)
 
-    few_is : length (live_orders s.orders s.order_count) < s.params.min_reveals → answer s (clear now) ≡ fails s too_few_reveals
+    few_is : length (live_orders s.orders s.order_count) < s.params.min_reveals → answer s (Clear now) ≡ fails s too_few_reveals
     few_is h = found (failed_by too_few_reveals) (sym ((C s).too_few h)) ∙ fails_is too_few_reveals (λ e. omega arith)
 
     unmarked_is : s.params.min_reveals ≤ length (live_orders s.orders s.order_count) → (not s.params.forced && not s.given.mark) ≡ true
-        → answer s (clear now) ≡ fails s mark_unavailable
+        → answer s (Clear now) ≡ fails s mark_unavailable
     unmarked_is h t = found (failed_by mark_unavailable) (sym ((C s).unmarked h t)) ∙ fails_is mark_unavailable (λ e. omega arith)
 
     module _ (c : Clearable s) where
-      no_cross_is : ((q : ℕ) → Executes s q → ⊥) → answer s (clear now) ≡ fails s no_cross
+      no_cross_is : ((q : ℕ) → Executes s q → ⊥) → answer s (Clear now) ≡ fails s no_cross
       no_cross_is h = found (failed_by no_cross) ((C s).one_outcome c (failed_by no_cross) (book.no_crossing h refl)) ∙ fails_is no_cross (λ e. omega arith)
 
       module _ (price : ℕ) (best : BestPrice s price) where
-        large_is : 2 ^ 64 ≤ executed_at s price → answer s (clear now) ≡ refused_by s math_overflow
+        large_is : 2 ^ 64 ≤ executed_at s price → answer s (Clear now) ≡ refused_by s math_overflow
         large_is h = found (refused_with math_overflow) ((C s).one_outcome c (refused_with math_overflow) (book.too_large price best h refl))
 
-        cleared_is : executed_at s price < 2 ^ 64 → answer s (clear now) ≡ clears s price
+        cleared_is : executed_at s price < 2 ^ 64 → answer s (Clear now) ≡ clears s price
         cleared_is h =
             found (priced s price)
             ((C s).one_outcome c (priced s price)
@@ -115,29 +114,29 @@ module _ (s : Session) (now : ℤ) where
             })))
             ∙ clears_is price
 
-        right_at : executed_at s price < 2 ^ 64 → RightClear s (answer s (clear now))
+        right_at : executed_at s price < 2 ^ 64 → RightClear s (answer s (Clear now))
         right_at h =
             let e = cleared_is h in
             let limits = (then_zero (limits_refusal s) _ z).0 in
-            cleared c price best h e (subst (λ (a : Answer). Lotted s price a.session) (sym e) (lotted s limits price))
+            cleared c price best h e (subst (λ (a : Answered). Lotted s price a.session) (sym e) (lotted s limits price))
 
-      by_outcome : (o : Outcome) → book.RightClear s.params s.given s.orders s.order_count o → RightClear s (answer s (clear now))
+      by_outcome : (o : Outcome) → book.RightClear s.params s.given s.orders s.order_count o → RightClear s (answer s (Clear now))
       by_outcome o (book.no_crossing h e) = no_crossing c h (no_cross_is h)
       by_outcome o (book.too_large q best h e) = too_large c q best h (large_is q best h)
       by_outcome o (has_price k) = right_at o.price k.best (subst (λ (x : ℕ). x < 2 ^ 64) k.volume k.fits)
 
       -- an answer with a price, or refused, does not fail
-      exactly : (answer s (clear now) ≡ fails s no_cross) ↔ ((q : ℕ) → Executes s q → ⊥)
+      exactly : (answer s (Clear now) ≡ fails s no_cross) ↔ ((q : ℕ) → Executes s q → ⊥)
       exactly = (λ e. go (outcome s) ((C s).right c) e, no_cross_is)
         where
-          go : (o : Outcome) → book.RightClear s.params s.given s.orders s.order_count o → answer s (clear now) ≡ fails s no_cross
+          go : (o : Outcome) → book.RightClear s.params s.given s.orders s.order_count o → answer s (Clear now) ≡ fails s no_cross
               → (q : ℕ) → Executes s q → ⊥
           go o (book.no_crossing h f) e = h
-          go o (book.too_large q best h f) e = absurd (omega (arith, ap (λ (a : Answer). a.refusal) (sym (large_is q best h) ∙ e)))
+          go o (book.too_large q best h f) e = absurd (omega (arith, ap (λ (a : Answered). a.refusal) (sym (large_is q best h) ∙ e)))
           go o (has_price k) e =
-              absurd (omega (arith, ap (λ (a : Answer). a.session.phase) (sym (cleared_is o.price k.best (subst (λ (x : ℕ). x < 2 ^ 64) k.volume k.fits)) ∙ e)))
+              absurd (omega (arith, ap (λ (a : Answered). a.session.phase) (sym (cleared_is o.price k.best (subst (λ (x : ℕ). x < 2 ^ 64) k.volume k.fits)) ∙ e)))
 
-    enough : s.params.min_reveals ≤ length (live_orders s.orders s.order_count) → RightClear s (answer s (clear now))
+    enough : s.params.min_reveals ≤ length (live_orders s.orders s.order_count) → RightClear s (answer s (Clear now))
     enough h =
         ⊎_elim
         (λ (t : (not s.params.forced && not s.given.mark) ≡ true).
@@ -146,10 +145,10 @@ module _ (s : Session) (now : ℤ) where
         let c : Clearable s = record { enough = h; marked = t } in by_outcome c (outcome s) ((C s).right c))
         (tested (not s.params.forced && not s.given.mark))
 
-    right : RightClear s (answer s (clear now))
+    right : RightClear s (answer s (Clear now))
     right = ⊎_elim (λ h. too_few h (few_is h)) enough (lt_or_le (length (live_orders s.orders s.order_count)) s.params.min_reveals)
 
-    one_answer : (a : Answer) → RightClear s a → a ≡ answer s (clear now)
+    one_answer : (a : Answered) → RightClear s a → a ≡ answer s (Clear now)
     one_answer a (too_few h e) = e ∙ sym (few_is h)
     one_answer a (unmarked h f m e) = e ∙ sym (unmarked_is h (rw (f, m)))
     one_answer a (no_crossing c h e) = e ∙ sym (no_cross_is c h)
@@ -158,7 +157,7 @@ module _ (s : Session) (now : ℤ) where
 
 pub demand2 : (s : Session) (now : ℤ) → Demand2 s now
 demand2 s now = record {
-  turned_away = λ z. sym (refused_answer s (clear now) (checks s now) (stops_early s now (checks s now) refl z) (refused_by s (checks s now)) refl z);
+  turned_away = λ z. sym (refused_answer s (Clear now) (checks s now) (stops_early s now (checks s now) refl z) (refused_by s (checks s now)) refl z);
   right = right s now;
   one_answer = one_answer s now;
   no_cross_exactly = exactly s now;

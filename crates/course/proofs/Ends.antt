@@ -13,7 +13,7 @@ use Rattle.book.specs.Book.{no_order, no_fill, buy_side, sell_side}
 use Rattle.book.specs.declared.Fill.{Fill}
 use Rattle.auction_engine.specs.declared.Session.{Session}
 use Rattle.auction_engine.specs.Session.{order_at, left, allocating}
-use Rattle.auction_engine.specs.Call.{Call}
+use Rattle.auction_engine.specs.declared.Call.{Call}
 use Rattle.auction_engine.specs.Matching.{after_fills}
 use Rattle.auction_engine.specs.Settlement.{print_of}
 use Rattle.course.specs.Course.{Run}

@@ -14,7 +14,8 @@ use Rattle.fills.specs.Steps.{fills_of}
 use Rattle.fills.proofs.Places.{count_table, answer_table}
 use Rattle.auction_engine.specs.declared.Session.{Session}
 use Rattle.auction_engine.specs.Session.{order_at}
-use Rattle.auction_engine.specs.Call.{Call, screen, clear, allocate, exercise, close, settle, skip, finish, expire}
+use Rattle.auction_engine.specs.declared.Call.{Call}
+use Rattle.auction_engine.specs.declared.Call.TheVariants.{Screen, Clear, Allocate, Exercise, Close, Settle, Skip, Finish, Expire}
 use Rattle.auction_engine.specs.Matching.{after_fills, done}
 use Rattle.auction_engine.specs.Engine.{refusal}
 use Rattle.course.specs.Course.{Run, begin, note, advance, run}
@@ -56,15 +57,15 @@ module _ (s : Session) (A : Allotted s) where
 -- the cranks' fills only grow
 noted_grows : (r : Run) (c : Call) → r.crank_fills ≤ (noted r c).crank_fills
 unfolding note
-noted_grows r (screen now i side verdict has_id id) = omega arith
-noted_grows r (clear now) = omega arith
-noted_grows r (allocate now n) = omega arith
-noted_grows r (exercise now issuer i q) = omega arith
-noted_grows r (close now caller) = omega arith
-noted_grows r (settle i) = omega arith
-noted_grows r (skip now i reason) = omega arith
-noted_grows r (finish now) = omega arith
-noted_grows r (expire now) = omega arith
+noted_grows r (Screen now i side verdict has_id id) = omega arith
+noted_grows r (Clear now) = omega arith
+noted_grows r (Allocate now n) = omega arith
+noted_grows r (Exercise now issuer i q) = omega arith
+noted_grows r (Close now caller) = omega arith
+noted_grows r (Settle i) = omega arith
+noted_grows r (Skip now i reason) = omega arith
+noted_grows r (Finish now) = omega arith
+noted_grows r (Expire now) = omega arith
 
 run_grows : (k : List Call) (r : Run) → r.crank_fills ≤ (run r k).crank_fills
 unfolding advance

@@ -14,7 +14,9 @@ use Rattle.book.specs.Limits.{max_fills}
 use Rattle.book.specs.Book.{no_wallet}
 use Rattle.auction_engine.specs.declared.Session.{Session}
 use Rattle.auction_engine.specs.Session.{fill_at, at_phase, allocating, issuer_rofr, settling, printed, failed}
-use Rattle.auction_engine.specs.Call.{Call, screen, clear, allocate, exercise, close, settle, skip, finish, expire, admits}
+use Rattle.auction_engine.specs.Call.{admits}
+use Rattle.auction_engine.specs.declared.Call.{Call}
+use Rattle.auction_engine.specs.declared.Call.TheVariants.{Screen, Clear, Allocate, Exercise, Close, Settle, Skip, Finish, Expire}
 use Rattle.auction_engine.specs.Matching.{after_fills, done, matched, phase_after, allocate_effect}
 use Rattle.auction_engine.specs.Rofr.{exercise_effect, close_effect}
 use Rattle.auction_engine.specs.Settlement.{settle_effect, skip_effect, finish_effect, expire_effect, moved_volume, print_of}
@@ -211,17 +213,17 @@ module _ (s₀ : Session) (A : Allotted s₀) where
       go true = refl
       go false = refl
 
-  allocate_keeps : (r : Run) (now : ℤ) (n : ℕ) → Matching s₀ r → Stage s₀ (noted r (allocate now n))
+  allocate_keeps : (r : Run) (now : ℤ) (n : ℕ) → Matching s₀ r → Stage s₀ (noted r (Allocate now n))
   unfolding note effect allocate_effect
   allocate_keeps r now n M =
       let t = after_fills M.k s₀ in
       let e : after_fills (M.k + n) s₀ ≡ after_fills n t = after_fills_add M.k n s₀ in
       let m : t.fill_count + ((matched (after_fills n t)).fill_count - t.fill_count) ≡ (after_fills n t).fill_count =
       omega (arith, after_fills_grows n t, matched_count (after_fills n t)) in
-      subst (λ x. Stage s₀ (noted x (allocate now n))) (sym M.is)
+      subst (λ x. Stage s₀ (noted x (Allocate now n))) (sym M.is)
       (rw m (subst (λ x. Stage s₀ (cranking (matched x) x.fill_count (not (eqb (matched x).phase allocating)))) e (allocated (M.k + n))))
 
-  exercise_keeps : (r : Run) (now : ℤ) (issuer : List ℕ) (i q : ℕ) → Buying s₀ r → Exercised r.session issuer i q → Stage s₀ (noted r (exercise now issuer i q))
+  exercise_keeps : (r : Run) (now : ℤ) (issuer : List ℕ) (i q : ℕ) → Buying s₀ r → Exercised r.session issuer i q → Stage s₀ (noted r (Exercise now issuer i q))
   unfolding note effect exercise_effect
   exercise_keeps r now issuer i q B E =
       let b = B.b in
@@ -249,7 +251,7 @@ module _ (s₀ : Session) (A : Allotted s₀) where
         volume = B.volume;
       })
 
-  close_keeps : (r : Run) (now : ℤ) (caller : List ℕ) → Buying s₀ r → Stage s₀ (noted r (close now caller))
+  close_keeps : (r : Run) (now : ℤ) (caller : List ℕ) → Buying s₀ r → Stage s₀ (noted r (Close now caller))
   unfolding note effect close_effect
   close_keeps r now caller B =
       in_settling (record {
@@ -266,7 +268,7 @@ module _ (s₀ : Session) (A : Allotted s₀) where
     fill_places : length r.session.fills ≡ max_fills
     fill_places = S.marks.places ∙ S.base.kept.fill_places
 
-    settle_keeps : Settlement s₀ (noted r (settle i))
+    settle_keeps : Settlement s₀ (noted r (Settle i))
     unfolding note effect
     settle_keeps =
         record {
@@ -275,7 +277,7 @@ module _ (s₀ : Session) (A : Allotted s₀) where
           marks = settle_marked S.b r.settled r.skipped r.skipped_qty r.session S.marks i U.i<n fills_few fill_places U.free;
         }
 
-    skip_keeps : (now : ℤ) (reason : ℕ) → Settlement s₀ (noted r (skip now i reason))
+    skip_keeps : (now : ℤ) (reason : ℕ) → Settlement s₀ (noted r (Skip now i reason))
     unfolding note effect
     skip_keeps now reason =
         record {
@@ -284,7 +286,7 @@ module _ (s₀ : Session) (A : Allotted s₀) where
           marks = skip_marked S.b r.settled r.skipped r.skipped_qty r.session S.marks i U.i<n fills_few fill_places U.free;
         }
 
-  finish_keeps : (r : Run) (now : ℤ) → Settling s₀ r → Stage s₀ (noted r (finish now))
+  finish_keeps : (r : Run) (now : ℤ) → Settling s₀ r → Stage s₀ (noted r (Finish now))
   unfolding note effect finish_effect print_of moved_volume
   finish_keeps r now S =
       let M = S.settlement.marks in
@@ -301,22 +303,22 @@ module _ (s₀ : Session) (A : Allotted s₀) where
 
   keeps : (r : Run) (c : Call) → Stage s₀ r → refusal r.session c ≡ 0 → Stage s₀ (noted r c)
   unfolding note effect settle_effect skip_effect expire_effect
-  keeps r (screen now i side verdict has_id id) I e = absurd (phase_after_clear I (early_screen r.session now i side verdict has_id id e))
-  keeps r (clear now) I e = absurd (phase_after_clear I (early_clear r.session now e))
-  keeps r (allocate now n) I e = allocate_keeps r now n (is_matching I (at_allocate r.session now n e))
-  keeps r (exercise now issuer i q) I e =
+  keeps r (Screen now i side verdict has_id id) I e = absurd (phase_after_clear I (early_screen r.session now i side verdict has_id id e))
+  keeps r (Clear now) I e = absurd (phase_after_clear I (early_clear r.session now e))
+  keeps r (Allocate now n) I e = allocate_keeps r now n (is_matching I (at_allocate r.session now n e))
+  keeps r (Exercise now issuer i q) I e =
       let E = exercised r.session now issuer i q e in exercise_keeps r now issuer i q (is_buying I E.at) E
-  keeps r (close now caller) I e = close_keeps r now caller (is_buying I (at_close r.session now caller e))
-  keeps r (settle i) I e =
+  keeps r (Close now caller) I e = close_keeps r now caller (is_buying I (at_close r.session now caller e))
+  keeps r (Settle i) I e =
       let U = settles r.session i e in
       let S = is_settling I U.at in
       in_settling (record { at = U.at; settlement = settle_keeps r S.settlement i U; prints = S.prints; volume = S.volume })
-  keeps r (skip now i reason) I e =
+  keeps r (Skip now i reason) I e =
       let U = skips r.session now i reason e in
       let S = is_settling I U.at in
       in_settling (record { at = U.at; settlement = skip_keeps r S.settlement i U now reason; prints = S.prints; volume = S.volume })
-  keeps r (finish now) I e = finish_keeps r now (is_settling I (at_finish r.session now e))
-  keeps r (expire now) I e =
+  keeps r (Finish now) I e = finish_keeps r now (is_settling I (at_finish r.session now e))
+  keeps r (Expire now) I e =
       in_failure (record { at = refl; made = few_made r I; prints = no_print I (at_expire r.session now e); complete = refl })
 
   advance_keeps : (r : Run) (c : Call) → Stage s₀ r → Stage s₀ (advance r c)

@@ -4,7 +4,7 @@ use mathlib.Core.Bool.{Bool, true, false, cond}
 use mathlib.Core.List.{List, [], ◌∷◌}
 use borrow.Author.Tests.{eqb-true}
 use lib.Dec.{eqb}
-use Rattle.auction_engine.specs.Call.{Call}
+use Rattle.auction_engine.specs.declared.Call.{Call}
 use Rattle.auction_engine.specs.Engine.{refusal, events, answer}
 use Rattle.course.specs.Course.{Run, begin, advance, run}
 use Rattle.course.specs.Lines.{said_by, lines_of, tell_all, notes_of, LinesTell}

@@ -19,7 +19,9 @@ use Rattle.events.specs.declared.Event.{Event}
 use Rattle.events.specs.declared.Event.TheVariants.{OrderScreened, SessionFailed, ClearingPrint, PhaseChanged}
 use Rattle.auction_engine.specs.declared.Session.{Session}
 use Rattle.auction_engine.specs.Session.{fill_at, at_phase, allocating, issuer_rofr, settling, printed, failed, clearing}
-use Rattle.auction_engine.specs.Call.{Call, screen, clear, allocate, exercise, close, settle, skip, finish, expire, admits}
+use Rattle.auction_engine.specs.Call.{admits}
+use Rattle.auction_engine.specs.declared.Call.{Call}
+use Rattle.auction_engine.specs.declared.Call.TheVariants.{Screen, Clear, Allocate, Exercise, Close, Settle, Skip, Finish, Expire}
 use Rattle.auction_engine.specs.Screening.{exclusion_of, screen_events, screen_lines}
 use Rattle.auction_engine.specs.Clearing.{outcome, clear_lines}
 use Rattle.auction_engine.specs.Matching.{due, one, after_fills, done, phase_after, allocate_effect, fill_events, allocate_events}
@@ -115,7 +117,7 @@ goes_on s = go (same s.params.rofr_authority no_wallet)
     go true = (omega arith, omega arith)
     go false = (omega arith, omega arith)
 
-allocate_tells : (r : Run) (now : ℤ) (n : ℕ) → r.session.phase ≡ allocating → notes_of (noted r (allocate now n)) ≡ tell_all (notes_of r) (allocate_events r.session n)
+allocate_tells : (r : Run) (now : ℤ) (n : ℕ) → r.session.phase ≡ allocating → notes_of (noted r (Allocate now n)) ≡ tell_all (notes_of r) (allocate_events r.session n)
 unfolding note effect allocate_effect allocate_events
 allocate_tells r now n h =
     go (done t)
@@ -143,14 +145,14 @@ allocate_tells r now n h =
 -- every call, by kind
 pub call_tells : (r : Run) (c : Call) → refusal r.session c ≡ 0 → notes_of (noted r c) ≡ tell_all (notes_of r) (events r.session c)
 unfolding note events screen_events exercise_events close_events settle_events skip_events finish_events expire_events
-call_tells r (screen now i side verdict has_id id) e =
+call_tells r (Screen now i side verdict has_id id) e =
     screen_tells (notes_of r) r.session.phase i (exclusion_of r.session i verdict has_id id) (before_matching _ (early_screen r.session now i side verdict has_id id e))
-call_tells r (clear now) e = clear_tells (notes_of r) r.session (outcome r.session) (before_matching _ (early_clear r.session now e)) (clear_reason r.session)
-call_tells r (allocate now n) e = allocate_tells r now n (at_allocate r.session now n e)
-call_tells r (exercise now issuer i q) e = refl
-call_tells r (close now caller) e = sym (other_phase (notes_of r) r.session.phase settling (omega (arith, at_close r.session now caller e)))
-call_tells r (settle i) e = either_tells (notes_of r) (eqb (fill_at r.session i).qty 0) [] _ refl refl
-call_tells r (skip now i reason) e = refl
-call_tells r (finish now) e =
+call_tells r (Clear now) e = clear_tells (notes_of r) r.session (outcome r.session) (before_matching _ (early_clear r.session now e)) (clear_reason r.session)
+call_tells r (Allocate now n) e = allocate_tells r now n (at_allocate r.session now n e)
+call_tells r (Exercise now issuer i q) e = refl
+call_tells r (Close now caller) e = sym (other_phase (notes_of r) r.session.phase settling (omega (arith, at_close r.session now caller e)))
+call_tells r (Settle i) e = either_tells (notes_of r) (eqb (fill_at r.session i).qty 0) [] _ refl refl
+call_tells r (Skip now i reason) e = refl
+call_tells r (Finish now) e =
     sym (other_phase (tell (notes_of r) (ClearingPrint (print_of r.session))) r.session.phase printed (omega (arith, at_finish r.session now e)))
-call_tells r (expire now) e = rw (and-false r.complete, and-false (eqb r.session.phase allocating))
+call_tells r (Expire now) e = rw (and-false r.complete, and-false (eqb r.session.phase allocating))

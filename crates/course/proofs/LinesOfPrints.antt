@@ -14,7 +14,9 @@ use Rattle.disclosure.specs.Disclosure.{shown, disclose_answer, Disclosed}
 use Rattle.events.specs.declared.Print.{Print}
 use Rattle.auction_engine.specs.declared.Session.{Session}
 use Rattle.auction_engine.specs.Session.{printed}
-use Rattle.auction_engine.specs.Call.{Call, screen, clear, allocate, exercise, close, settle, skip, finish, expire, admits}
+use Rattle.auction_engine.specs.Call.{admits}
+use Rattle.auction_engine.specs.declared.Call.{Call}
+use Rattle.auction_engine.specs.declared.Call.TheVariants.{Screen, Clear, Allocate, Exercise, Close, Settle, Skip, Finish, Expire}
 use Rattle.auction_engine.specs.Screening.{screen_effect}
 use Rattle.auction_engine.specs.Clearing.{outcome, cleared_by}
 use Rattle.auction_engine.specs.Matching.{after_fills, done, allocate_effect}
@@ -31,15 +33,15 @@ use Rattle.course.proofs.Accepted.{noted, early_screen, early_clear, at_allocate
 -- Printed admits no call
 closed : (s : Session) (c : Call) → s.phase ≡ printed → refusal s c ≡ 0 → ⊥
 unfolding admits
-closed s (screen now i side verdict has_id id) h e = false≢true (rw h at (early_screen s now i side verdict has_id id e))
-closed s (clear now) h e = false≢true (rw h at (early_clear s now e))
-closed s (allocate now n) h e = omega (arith, at_allocate s now n e)
-closed s (exercise now issuer i q) h e = omega (arith, (exercised s now issuer i q e).at)
-closed s (close now caller) h e = omega (arith, at_close s now caller e)
-closed s (settle i) h e = omega (arith, (settles s i e).at)
-closed s (skip now i reason) h e = omega (arith, (skips s now i reason e).at)
-closed s (finish now) h e = omega (arith, at_finish s now e)
-closed s (expire now) h e = false≢true (rw h at (at_expire s now e))
+closed s (Screen now i side verdict has_id id) h e = false≢true (rw h at (early_screen s now i side verdict has_id id e))
+closed s (Clear now) h e = false≢true (rw h at (early_clear s now e))
+closed s (Allocate now n) h e = omega (arith, at_allocate s now n e)
+closed s (Exercise now issuer i q) h e = omega (arith, (exercised s now issuer i q e).at)
+closed s (Close now caller) h e = omega (arith, at_close s now caller e)
+closed s (Settle i) h e = omega (arith, (settles s i e).at)
+closed s (Skip now i reason) h e = omega (arith, (skips s now i reason e).at)
+closed s (Finish now) h e = omega (arith, at_finish s now e)
+closed s (Expire now) h e = false≢true (rw h at (at_expire s now e))
 
 -- no call changes what the venue gives
 either_given : (x : Bool) (s t u : Session) → t.given ≡ s.given → u.given ≡ s.given → (cond x t u).given ≡ s.given
@@ -48,15 +50,15 @@ either_given false s t u h k = k
 
 effect_given : (s : Session) (c : Call) → (effect s c).given ≡ s.given
 unfolding effect screen_effect cleared_by allocate_effect exercise_effect close_effect settle_effect skip_effect finish_effect expire_effect
-effect_given s (screen now i side verdict has_id id) = refl
-effect_given s (clear now) = either_given (eqb (outcome s).failed 0) s _ _ refl refl
-effect_given s (allocate now n) = either_given (done (after_fills n s)) s _ _ (after_fills_given n s) (after_fills_given n s)
-effect_given s (exercise now issuer i q) = refl
-effect_given s (close now caller) = refl
-effect_given s (settle i) = refl
-effect_given s (skip now i reason) = refl
-effect_given s (finish now) = refl
-effect_given s (expire now) = refl
+effect_given s (Screen now i side verdict has_id id) = refl
+effect_given s (Clear now) = either_given (eqb (outcome s).failed 0) s _ _ refl refl
+effect_given s (Allocate now n) = either_given (done (after_fills n s)) s _ _ (after_fills_given n s) (after_fills_given n s)
+effect_given s (Exercise now issuer i q) = refl
+effect_given s (Close now caller) = refl
+effect_given s (Settle i) = refl
+effect_given s (Skip now i reason) = refl
+effect_given s (Finish now) = refl
+effect_given s (Expire now) = refl
 
 -- showing is never refused
 either_refusal : (x : Bool) (a b : Disclosed) → a.refusal ≡ 0 → b.refusal ≡ 0 → (cond x a b).refusal ≡ 0
@@ -73,7 +75,7 @@ abbrev pub Shows : Given → (price volume : ℕ) → Print → Type 0
 Shows g price volume print =
     disclose_answer g.policy g.band_bps price volume ≡ record { refusal = 0; price = print.price; volume = print.volume }
 
-finish_shows : (s : Session) (now : ℤ) → refusal s (finish now) ≡ 0 → Shows s.given s.cleared.clear_price (moved_volume s) (print_of s)
+finish_shows : (s : Session) (now : ℤ) → refusal s (Finish now) ≡ 0 → Shows s.given s.cleared.clear_price (moved_volume s) (print_of s)
 unfolding disclose_answer print_of
 finish_shows s now e =
     let passed = finish_passed s now e in
@@ -105,7 +107,7 @@ still g r c U p q =
       volume = q ∙ U.volume;
     })
 
-finish_prints : (g : Given) (r : Run) (now : ℤ) → Unprinted g r → refusal r.session (finish now) ≡ 0 → AtMostOnce g (noted r (finish now))
+finish_prints : (g : Given) (r : Run) (now : ℤ) → Unprinted g r → refusal r.session (Finish now) ≡ 0 → AtMostOnce g (noted r (Finish now))
 unfolding note effect finish_effect
 finish_prints g r now U e =
     once (record {
@@ -118,15 +120,15 @@ finish_prints g r now U e =
 call_prints : (g : Given) (r : Run) (c : Call) → AtMostOnce g r → refusal r.session c ≡ 0 → AtMostOnce g (noted r c)
 unfolding note
 call_prints g r c (once P) e = absurd (closed r.session c P.at e)
-call_prints g r (screen now i side verdict has_id id) (not_yet U) e = still g r (screen now i side verdict has_id id) U refl refl
-call_prints g r (clear now) (not_yet U) e = still g r (clear now) U refl refl
-call_prints g r (allocate now n) (not_yet U) e = still g r (allocate now n) U refl refl
-call_prints g r (exercise now issuer i q) (not_yet U) e = still g r (exercise now issuer i q) U refl refl
-call_prints g r (close now caller) (not_yet U) e = still g r (close now caller) U refl refl
-call_prints g r (settle i) (not_yet U) e = still g r (settle i) U refl refl
-call_prints g r (skip now i reason) (not_yet U) e = still g r (skip now i reason) U refl refl
-call_prints g r (finish now) (not_yet U) e = finish_prints g r now U e
-call_prints g r (expire now) (not_yet U) e = still g r (expire now) U refl refl
+call_prints g r (Screen now i side verdict has_id id) (not_yet U) e = still g r (Screen now i side verdict has_id id) U refl refl
+call_prints g r (Clear now) (not_yet U) e = still g r (Clear now) U refl refl
+call_prints g r (Allocate now n) (not_yet U) e = still g r (Allocate now n) U refl refl
+call_prints g r (Exercise now issuer i q) (not_yet U) e = still g r (Exercise now issuer i q) U refl refl
+call_prints g r (Close now caller) (not_yet U) e = still g r (Close now caller) U refl refl
+call_prints g r (Settle i) (not_yet U) e = still g r (Settle i) U refl refl
+call_prints g r (Skip now i reason) (not_yet U) e = still g r (Skip now i reason) U refl refl
+call_prints g r (Finish now) (not_yet U) e = finish_prints g r now U e
+call_prints g r (Expire now) (not_yet U) e = still g r (Expire now) U refl refl
 
 advance_prints : (g : Given) (r : Run) (c : Call) → AtMostOnce g r → AtMostOnce g (advance r c)
 unfolding advance

@@ -7,10 +7,11 @@ use Prim.Native.Nat.{ℕ, zero, suc}
 use lib.Dec.{eqb}
 use Rattle.laws.specs.Lists.{Member}
 use Rattle.events.specs.declared.Event.{Event}
-use Rattle.events.specs.declared.Event.TheVariants.{Nothing, OrderScreened, Cleared, SessionFailed, FillAllocated, RofrExercised, RofrClosed, FillSettled, FillSkipped, ClearingPrint, PhaseChanged, Opened, Ordered, Refused}
+use Rattle.events.specs.declared.Event.TheVariants.{OrderScreened, Cleared, SessionFailed, FillAllocated, RofrExercised, RofrClosed, FillSettled, FillSkipped, ClearingPrint, PhaseChanged, Opened, Ordered, Refused}
 use Rattle.auction_engine.specs.declared.Session.{Session}
 use Rattle.auction_engine.specs.Session.{fill_at, clearing}
-use Rattle.auction_engine.specs.Call.{Call, screen, clear, allocate, exercise, close, settle, skip, finish, expire}
+use Rattle.auction_engine.specs.declared.Call.{Call}
+use Rattle.auction_engine.specs.declared.Call.TheVariants.{Screen, Clear, Allocate, Exercise, Close, Settle, Skip, Finish, Expire}
 use Rattle.auction_engine.specs.Screening.{exclusion_of, screen_events}
 use Rattle.auction_engine.specs.Clearing.{outcome, clear_lines}
 use Rattle.auction_engine.specs.Matching.{due, one, after_fills, done, fill_events, allocate_events}
@@ -31,19 +32,19 @@ either_settled false r t h = refl
 
 advance_settled : (r : Run) (c : Call) → (advance r c).settled ≡ settled_by r.session c ++ r.settled
 unfolding advance note
-advance_settled r (screen now i side verdict has_id id) = either_settled (eqb (refusal r.session (screen now i side verdict has_id id)) 0) r _ refl
-advance_settled r (clear now) = either_settled (eqb (refusal r.session (clear now)) 0) r _ refl
-advance_settled r (allocate now n) = either_settled (eqb (refusal r.session (allocate now n)) 0) r _ refl
-advance_settled r (exercise now issuer i q) = either_settled (eqb (refusal r.session (exercise now issuer i q)) 0) r _ refl
-advance_settled r (close now caller) = either_settled (eqb (refusal r.session (close now caller)) 0) r _ refl
-advance_settled r (settle i) = rw (answers_refusal r.session (settle i)) (go (eqb (refusal r.session (settle i)) 0))
+advance_settled r (Screen now i side verdict has_id id) = either_settled (eqb (refusal r.session (Screen now i side verdict has_id id)) 0) r _ refl
+advance_settled r (Clear now) = either_settled (eqb (refusal r.session (Clear now)) 0) r _ refl
+advance_settled r (Allocate now n) = either_settled (eqb (refusal r.session (Allocate now n)) 0) r _ refl
+advance_settled r (Exercise now issuer i q) = either_settled (eqb (refusal r.session (Exercise now issuer i q)) 0) r _ refl
+advance_settled r (Close now caller) = either_settled (eqb (refusal r.session (Close now caller)) 0) r _ refl
+advance_settled r (Settle i) = rw (answers_refusal r.session (Settle i)) (go (eqb (refusal r.session (Settle i)) 0))
   where
-    go : (x : Bool) → (cond x (noted r (settle i)) r).settled ≡ cond x (i ∷ []) [] ++ r.settled
+    go : (x : Bool) → (cond x (noted r (Settle i)) r).settled ≡ cond x (i ∷ []) [] ++ r.settled
     go true = refl
     go false = refl
-advance_settled r (skip now i reason) = either_settled (eqb (refusal r.session (skip now i reason)) 0) r _ refl
-advance_settled r (finish now) = either_settled (eqb (refusal r.session (finish now)) 0) r _ refl
-advance_settled r (expire now) = either_settled (eqb (refusal r.session (expire now)) 0) r _ refl
+advance_settled r (Skip now i reason) = either_settled (eqb (refusal r.session (Skip now i reason)) 0) r _ refl
+advance_settled r (Finish now) = either_settled (eqb (refusal r.session (Finish now)) 0) r _ refl
+advance_settled r (Expire now) = either_settled (eqb (refusal r.session (Expire now)) 0) r _ refl
 
 run_settled : (l : List Call) (r : Run) → (run r l).settled ≡ settled_in r.session l ++ r.settled
 run_settled [] r = refl
@@ -56,7 +57,6 @@ all_settled s l = run_settled l (begin s) ∙ append-nil (settled_in s l)
 
 -- a line that is a `settle` names a fill of the list k; every line does
 abbrev Names : List ℕ → Event → Type 0
-Names k Nothing = Unit
 Names k (OrderScreened order exclusion) = Unit
 Names k (Cleared price volume reserve reference) = Unit
 Names k (SessionFailed reason) = Unit
@@ -95,19 +95,19 @@ each_fill k (suc n) s = each_either k (due s) _ [] (tt, each_fill k n (one s)) t
 -- the lines of a call, where every fill that it settles is in k
 call_names : (k : List ℕ) (s : Session) (c : Call) → eqb (refusal s c) 0 ≡ true → ((i : ℕ) → Member i (settled_by s c) → Member i k) → Each k (events s c)
 unfolding events screen_events clear_lines allocate_events exercise_events close_events settle_events skip_events finish_events expire_events
-call_names k s (screen now i side verdict has_id id) e h =
+call_names k s (Screen now i side verdict has_id id) e h =
     let change : List Event = PhaseChanged s.phase clearing ∷ [] in
     each_append k (cond (eqb s.phase clearing) [] change) (OrderScreened i (exclusion_of s i verdict has_id id) ∷ [])
     (each_either k (eqb s.phase clearing) [] change tt (tt, tt)) (tt, tt)
-call_names k s (clear now) e h = each_either k (eqb (outcome s).failed 0) _ _ (tt, (tt, tt)) (tt, (tt, tt))
-call_names k s (allocate now n) e h = each_append k (fill_events n s) _ (each_fill k n s) (each_either k (done (after_fills n s)) _ [] (tt, tt) tt)
-call_names k s (exercise now issuer i q) e h = (tt, tt)
-call_names k s (close now caller) e h = (tt, (tt, tt))
-call_names k s (settle i) e h =
-    each_either k (eqb (fill_at s i).qty 0) [] _ tt (h i (rw (answers_refusal s (settle i), e) (inl refl)), tt)
-call_names k s (skip now i reason) e h = (tt, tt)
-call_names k s (finish now) e h = (tt, (tt, tt))
-call_names k s (expire now) e h = (tt, (tt, tt))
+call_names k s (Clear now) e h = each_either k (eqb (outcome s).failed 0) _ _ (tt, (tt, tt)) (tt, (tt, tt))
+call_names k s (Allocate now n) e h = each_append k (fill_events n s) _ (each_fill k n s) (each_either k (done (after_fills n s)) _ [] (tt, tt) tt)
+call_names k s (Exercise now issuer i q) e h = (tt, tt)
+call_names k s (Close now caller) e h = (tt, (tt, tt))
+call_names k s (Settle i) e h =
+    each_either k (eqb (fill_at s i).qty 0) [] _ tt (h i (rw (answers_refusal s (Settle i), e) (inl refl)), tt)
+call_names k s (Skip now i reason) e h = (tt, tt)
+call_names k s (Finish now) e h = (tt, (tt, tt))
+call_names k s (Expire now) e h = (tt, (tt, tt))
 
 said_names : (k : List ℕ) (s : Session) (c : Call) → ((i : ℕ) → Member i (settled_by s c) → Member i k) → Each k (said_by s c)
 said_names k s c h = go (eqb (refusal s c) 0) refl

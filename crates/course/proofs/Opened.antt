@@ -24,7 +24,9 @@ use Rattle.book.specs.declared.Params.{Params}
 use Rattle.book.specs.declared.Given.{Given}
 use Rattle.auction_engine.specs.declared.Session.{Session}
 use Rattle.auction_engine.specs.Session.{order_at, fresh, at_phase, allocating, issuer_rofr, settling}
-use Rattle.auction_engine.specs.Call.{Call, screen, clear, allocate, exercise, close, settle, skip, finish, expire, admits}
+use Rattle.auction_engine.specs.Call.{admits}
+use Rattle.auction_engine.specs.declared.Call.{Call}
+use Rattle.auction_engine.specs.declared.Call.TheVariants.{Screen, Clear, Allocate, Exercise, Close, Settle, Skip, Finish, Expire}
 use Rattle.auction_engine.specs.Screening.{screen_effect}
 use Rattle.auction_engine.specs.Clearing.{outcome, cleared_by, clear_effect}
 use Rattle.auction_engine.specs.Matching.{after_fills, done, phase_after, allocate_effect}
@@ -134,9 +136,9 @@ allocate_late s n h e =
 
 keeps : (r : Run) (c : Call) → BeforeClear r.session → refusal r.session c ≡ 0 → BeforeClear (noted r c).session
 unfolding note effect screen_effect exercise_effect close_effect settle_effect skip_effect finish_effect expire_effect admits
-keeps r (screen now i side verdict has_id id) I e _ =
+keeps r (Screen now i side verdict has_id id) I e _ =
     let U = I (early_screen r.session now i side verdict has_id id e) in
-    let owner : (j : ℕ) → (order_at (noted r (screen now i side verdict has_id id)).session j).owner ≡ (order_at r.session j).owner =
+    let owner : (j : ℕ) → (order_at (noted r (Screen now i side verdict has_id id)).session j).owner ≡ (order_at r.session j).owner =
     λ j. unseen (λ (o : Order). o.owner) r.session.orders i _ no_order refl j in
     record {
       order_places = rw length-set U.order_places;
@@ -146,14 +148,14 @@ keeps r (screen now i side verdict has_id id) I e _ =
       none_skipped = U.none_skipped;
       owners = λ j k lj lk h. U.owners j k lj lk (sym (owner j) ∙ h ∙ owner k);
     }
-keeps r (clear now) I e h = absurd (clear_late r.session h)
-keeps r (allocate now n) I e h = absurd (allocate_late r.session n (at_allocate r.session now n e) h)
-keeps r (exercise now issuer i q) I e h = absurd (not_early r.session issuer_rofr (exercised r.session now issuer i q e).at false≢true h)
-keeps r (close now caller) I e h = absurd (false≢true h)
-keeps r (settle i) I e h = absurd (not_early r.session settling (settles r.session i e).at false≢true h)
-keeps r (skip now i reason) I e h = absurd (not_early r.session settling (skips r.session now i reason e).at false≢true h)
-keeps r (finish now) I e h = absurd (false≢true h)
-keeps r (expire now) I e h = absurd (false≢true h)
+keeps r (Clear now) I e h = absurd (clear_late r.session h)
+keeps r (Allocate now n) I e h = absurd (allocate_late r.session n (at_allocate r.session now n e) h)
+keeps r (Exercise now issuer i q) I e h = absurd (not_early r.session issuer_rofr (exercised r.session now issuer i q e).at false≢true h)
+keeps r (Close now caller) I e h = absurd (false≢true h)
+keeps r (Settle i) I e h = absurd (not_early r.session settling (settles r.session i e).at false≢true h)
+keeps r (Skip now i reason) I e h = absurd (not_early r.session settling (skips r.session now i reason e).at false≢true h)
+keeps r (Finish now) I e h = absurd (false≢true h)
+keeps r (Expire now) I e h = absurd (false≢true h)
 
 advance_keeps : (r : Run) (c : Call) → BeforeClear r.session → BeforeClear (advance r c).session
 unfolding advance

@@ -23,7 +23,9 @@ use Rattle.book.specs.declared.Row.{Row}
 use Rattle.escrow.specs.Cover.{decimals_refusal}
 use Rattle.auction_engine.specs.declared.Session.{Session}
 use Rattle.auction_engine.specs.Session.{order_at, fresh, at_phase, issuer_rofr, settling}
-use Rattle.auction_engine.specs.Call.{Call, screen, clear, allocate, exercise, close, settle, skip, finish, expire, limits_refusal, fields_refusal}
+use Rattle.auction_engine.specs.Call.{limits_refusal, fields_refusal}
+use Rattle.auction_engine.specs.declared.Call.{Call}
+use Rattle.auction_engine.specs.declared.Call.TheVariants.{Screen, Clear, Allocate, Exercise, Close, Settle, Skip, Finish, Expire}
 use Rattle.auction_engine.specs.Screening.{screen_effect}
 use Rattle.auction_engine.specs.Clearing.{outcome, cleared_by}
 use Rattle.auction_engine.specs.Matching.{due, one, after_fills, overfull, done, phase_after, matched, allocate_effect}
@@ -147,20 +149,20 @@ matched_passes t P = either (done t) (at_phase t (phase_after t)) t (still_passe
 
 effect_passes : (s : Session) (c : Call) → Passes s → refusal s c ≡ 0 → Passes (effect s c)
 unfolding effect screen_effect cleared_by allocate_effect exercise_effect close_effect settle_effect skip_effect finish_effect expire_effect
-effect_passes s (screen now i side verdict has_id id) P e =
-    still_passes s _ P refl refl refl (few_fills s P.limits) (omega arith) (λ j. same_side ((effect_rows s (screen now i side verdict has_id id)).rows j))
-effect_passes s (clear now) P e =
+effect_passes s (Screen now i side verdict has_id id) P e =
+    still_passes s _ P refl refl refl (few_fills s P.limits) (omega arith) (λ j. same_side ((effect_rows s (Screen now i side verdict has_id id)).rows j))
+effect_passes s (Clear now) P e =
     either (eqb (outcome s).failed 0) _ _
     (still_passes s _ P refl refl refl (few_fills s P.limits) (omega arith) (λ j. same_side (lots_rows s.orders (outcome s).lots s.order_count j)))
     (still_passes s _ P refl refl refl (few_fills s P.limits) (omega arith) (λ j. refl))
-effect_passes s (allocate now n) P e = matched_passes (after_fills n s) (after_fills_passes n s P (omega (arith, at_allocate s now n e)) (not_full s now n e))
-effect_passes s (exercise now issuer i q) P e =
+effect_passes s (Allocate now n) P e = matched_passes (after_fills n s) (after_fills_passes n s P (omega (arith, at_allocate s now n e)) (not_full s now n e))
+effect_passes s (Exercise now issuer i q) P e =
     let E = exercised s now issuer i q e in still_passes s _ P refl refl refl (omega (arith, E.free)) (omega (arith, E.at)) (λ j. refl)
-effect_passes s (close now caller) P e = still_passes s _ P refl refl refl (few_fills s P.limits) (omega arith) (λ j. refl)
-effect_passes s (settle i) P e = still_passes s _ P refl refl refl (few_fills s P.limits) (omega (arith, (settles s i e).at)) (λ j. refl)
-effect_passes s (skip now i reason) P e = still_passes s _ P refl refl refl (few_fills s P.limits) (omega (arith, (skips s now i reason e).at)) (λ j. refl)
-effect_passes s (finish now) P e = still_passes s _ P refl refl refl (few_fills s P.limits) (omega arith) (λ j. refl)
-effect_passes s (expire now) P e = still_passes s _ P refl refl refl (few_fills s P.limits) (omega arith) (λ j. refl)
+effect_passes s (Close now caller) P e = still_passes s _ P refl refl refl (few_fills s P.limits) (omega arith) (λ j. refl)
+effect_passes s (Settle i) P e = still_passes s _ P refl refl refl (few_fills s P.limits) (omega (arith, (settles s i e).at)) (λ j. refl)
+effect_passes s (Skip now i reason) P e = still_passes s _ P refl refl refl (few_fills s P.limits) (omega (arith, (skips s now i reason e).at)) (λ j. refl)
+effect_passes s (Finish now) P e = still_passes s _ P refl refl refl (few_fills s P.limits) (omega arith) (λ j. refl)
+effect_passes s (Expire now) P e = still_passes s _ P refl refl refl (few_fills s P.limits) (omega arith) (λ j. refl)
 
 -- ---- calls in turn
 answer_passes : (s : Session) (c : Call) → Passes s → Passes (answer s c).session

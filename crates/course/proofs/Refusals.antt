@@ -17,7 +17,9 @@ use Rattle.book.specs.Claims as book
 use Rattle.book.specs.Claims.{ClearIsRight}
 use Rattle.book.proofs.Theorems.{clear_is_right}
 use Rattle.auction_engine.specs.declared.Session.{Session}
-use Rattle.auction_engine.specs.Call.{Call, screen, clear, allocate, exercise, close, settle, skip, finish, expire, expire_kind, limits_refusal, fields_refusal, arguments_refusal}
+use Rattle.auction_engine.specs.Call.{expire_kind, limits_refusal, fields_refusal, arguments_refusal}
+use Rattle.auction_engine.specs.declared.Call.{Call}
+use Rattle.auction_engine.specs.declared.Call.TheVariants.{Screen, Clear, Allocate, Exercise, Close, Settle, Skip, Finish, Expire}
 use Rattle.auction_engine.specs.Screening.{screen_refusal}
 use Rattle.auction_engine.specs.Clearing.{outcome, clear_checks, clear_refusal}
 use Rattle.auction_engine.specs.Matching.{allocate_refusal}
@@ -65,15 +67,15 @@ module _ (s : Session) (l : List ℕ) where
 
 pub arguments_in : (l : List ℕ) (c : Call) → Member 4 l → Member (arguments_refusal c) (0 ∷ l)
 unfolding arguments_refusal
-arguments_in l (screen now i side verdict has_id id) m = check_in l _ 4 _ m (check_in l _ 4 _ m (check_in l _ 4 _ m (unless_in l _ 4 m)))
-arguments_in l (clear now) m = inl refl
-arguments_in l (allocate now n) m = inl refl
-arguments_in l (exercise now issuer i q) m = inl refl
-arguments_in l (close now caller) m = inl refl
-arguments_in l (settle i) m = inl refl
-arguments_in l (skip now i reason) m = unless_in l _ 4 m
-arguments_in l (finish now) m = inl refl
-arguments_in l (expire now) m = inl refl
+arguments_in l (Screen now i side verdict has_id id) m = check_in l _ 4 _ m (check_in l _ 4 _ m (check_in l _ 4 _ m (unless_in l _ 4 m)))
+arguments_in l (Clear now) m = inl refl
+arguments_in l (Allocate now n) m = inl refl
+arguments_in l (Exercise now issuer i q) m = inl refl
+arguments_in l (Close now caller) m = inl refl
+arguments_in l (Settle i) m = inl refl
+arguments_in l (Skip now i reason) m = unless_in l _ 4 m
+arguments_in l (Finish now) m = inl refl
+arguments_in l (Expire now) m = inl refl
 
 -- one check of a row, and the last
 pub check : (l : List ℕ) (n : ℕ) (t : Bool) (rest : ℕ) → has l n ≡ true → Member rest (0 ∷ l) → Member (unless t n then rest) (0 ∷ l)
@@ -85,24 +87,24 @@ last l n t h = unless_in l t n (has_member l n h)
 -- the call's own row, by kind
 own_in : (s : Session) (c : Call) → Member (own_refusal s c) (0 ∷ numbers_of c)
 unfolding own_refusal screen_refusal clear_refusal allocate_refusal exercise_refusal close_refusal settle_refusal skip_refusal finish_refusal expire_refusal has
-own_in s (screen now i side verdict has_id id) =
-    let l : List ℕ = numbers_of (screen now i side verdict has_id id) in
+own_in s (Screen now i side verdict has_id id) =
+    let l : List ℕ = numbers_of (Screen now i side verdict has_id id) in
     check l 11 _ _ refl
     (check l 10 _ _ refl
     (check l 12 _ _ refl
     (check l 13 _ _ refl
     (check l 14 _ _ refl
     (last l 15 _ refl)))))
-own_in s (clear now) =
-    let l : List ℕ = numbers_of (clear now) in
+own_in s (Clear now) =
+    let l : List ℕ = numbers_of (Clear now) in
     then_in l (clear_checks s now) _
     (check l 11 _ _ refl (check l 10 _ _ refl (last l 16 _ refl)))
     (outcome_in s l (has_member l 17 refl))
-own_in s (allocate now n) =
-    let l : List ℕ = numbers_of (allocate now n) in
+own_in s (Allocate now n) =
+    let l : List ℕ = numbers_of (Allocate now n) in
     check l 10 _ _ refl (last l 18 _ refl)
-own_in s (exercise now issuer i q) =
-    let l : List ℕ = numbers_of (exercise now issuer i q) in
+own_in s (Exercise now issuer i q) =
+    let l : List ℕ = numbers_of (Exercise now issuer i q) in
     check l 10 _ _ refl
     (check l 11 _ _ refl
     (check l 19 _ _ refl
@@ -112,21 +114,21 @@ own_in s (exercise now issuer i q) =
     (check l 21 _ _ refl
     (check l 21 _ _ refl
     (last l 22 _ refl))))))))
-own_in s (close now caller) =
-    let l : List ℕ = numbers_of (close now caller) in
+own_in s (Close now caller) =
+    let l : List ℕ = numbers_of (Close now caller) in
     check l 10 _ _ refl (last l 19 _ refl)
-own_in s (settle i) =
-    let l : List ℕ = numbers_of (settle i) in
+own_in s (Settle i) =
+    let l : List ℕ = numbers_of (Settle i) in
     check l 10 _ _ refl (check l 21 _ _ refl (last l 23 _ refl))
-own_in s (skip now i reason) =
-    let l : List ℕ = numbers_of (skip now i reason) in
+own_in s (Skip now i reason) =
+    let l : List ℕ = numbers_of (Skip now i reason) in
     check l 10 _ _ refl
     (check l 21 _ _ refl (check l 23 _ _ refl (last l 24 _ refl)))
-own_in s (finish now) =
-    let l : List ℕ = numbers_of (finish now) in
+own_in s (Finish now) =
+    let l : List ℕ = numbers_of (Finish now) in
     check l 10 _ _ refl (check l 25 _ _ refl (last l 17 _ refl))
-own_in s (expire now) =
-    let l : List ℕ = numbers_of (expire now) in
+own_in s (Expire now) =
+    let l : List ℕ = numbers_of (Expire now) in
     check l 10 _ _ refl (last l 11 _ refl)
 
 -- with the numbers of any call

@@ -17,7 +17,8 @@ use Rattle.book.specs.declared.Order.{Order}
 use Rattle.book.specs.declared.Row.{Row}
 use Rattle.auction_engine.specs.declared.Session.{Session}
 use Rattle.auction_engine.specs.Session.{order_at, at_phase}
-use Rattle.auction_engine.specs.Call.{Call, screen, clear, allocate, exercise, close, settle, skip, finish, expire}
+use Rattle.auction_engine.specs.declared.Call.{Call}
+use Rattle.auction_engine.specs.declared.Call.TheVariants.{Screen, Clear, Allocate, Exercise, Close, Settle, Skip, Finish, Expire}
 use Rattle.auction_engine.specs.Screening.{screen_effect}
 use Rattle.auction_engine.specs.Clearing.{outcome, with_lots, cleared_by}
 use Rattle.auction_engine.specs.Matching.{less_left, pair, after_fills, done, phase_after, matched, allocate_effect}
@@ -100,18 +101,18 @@ matched_rows t = either (done t) t (at_phase t (phase_after t)) t (record { coun
 -- ---- a call
 pub effect_rows : (s : Session) (c : Call) → SameRows s (effect s c)
 unfolding effect screen_effect cleared_by allocate_effect exercise_effect close_effect settle_effect skip_effect finish_effect expire_effect
-effect_rows s (screen now i side verdict has_id id) = record { count = refl; rows = λ j. unseen row_of s.orders i _ no_order refl j }
-effect_rows s (clear now) =
+effect_rows s (Screen now i side verdict has_id id) = record { count = refl; rows = λ j. unseen row_of s.orders i _ no_order refl j }
+effect_rows s (Clear now) =
     either (eqb (outcome s).failed 0) s _ _
     (record { count = refl; rows = lots_rows s.orders (outcome s).lots s.order_count })
     (record { count = refl; rows = λ j. refl })
-effect_rows s (allocate now n) = rows_on s (after_fills n s) (matched (after_fills n s)) (after_fills_rows n s) (matched_rows (after_fills n s))
-effect_rows s (exercise now issuer i q) = record { count = refl; rows = λ j. refl }
-effect_rows s (close now caller) = record { count = refl; rows = λ j. refl }
-effect_rows s (settle i) = record { count = refl; rows = λ j. refl }
-effect_rows s (skip now i reason) = record { count = refl; rows = λ j. refl }
-effect_rows s (finish now) = record { count = refl; rows = λ j. refl }
-effect_rows s (expire now) = record { count = refl; rows = λ j. refl }
+effect_rows s (Allocate now n) = rows_on s (after_fills n s) (matched (after_fills n s)) (after_fills_rows n s) (matched_rows (after_fills n s))
+effect_rows s (Exercise now issuer i q) = record { count = refl; rows = λ j. refl }
+effect_rows s (Close now caller) = record { count = refl; rows = λ j. refl }
+effect_rows s (Settle i) = record { count = refl; rows = λ j. refl }
+effect_rows s (Skip now i reason) = record { count = refl; rows = λ j. refl }
+effect_rows s (Finish now) = record { count = refl; rows = λ j. refl }
+effect_rows s (Expire now) = record { count = refl; rows = λ j. refl }
 
 -- ---- calls in turn
 answer_rows : (s : Session) (c : Call) → SameRows s (answer s c).session

@@ -18,7 +18,8 @@ use Rattle.events.specs.declared.Event.{Event}
 use Rattle.events.specs.declared.Event.TheVariants.{Cleared, SessionFailed}
 use Rattle.auction_engine.specs.declared.Session.{Session}
 use Rattle.auction_engine.specs.Session.{order_at, remake, allocating}
-use Rattle.auction_engine.specs.Call.{clear, limits_refusal, fields_refusal}
+use Rattle.auction_engine.specs.Call.{limits_refusal, fields_refusal}
+use Rattle.auction_engine.specs.declared.Call.TheVariants.{Clear}
 use Rattle.auction_engine.specs.Clearing.{outcome, with_lot, with_lots, cleared_by, clear_effect, clear_lines}
 use Rattle.auction_engine.specs.Engine.{effect, events}
 use Rattle.auction_engine.specs.Opening.{opened}
@@ -85,21 +86,21 @@ pub record Starts {s : Session} (j : JustCleared s) : Type 0 where
   pub lot : (i : ℕ) → i < s.order_count → (order_at s i).alloc ≡ lot_of j i
 
 pub events_say : (s : Session) (now : ℤ) (price volume reserve reference : ℕ) (others : List Event)
-    → events s (clear now) ≡ Cleared price volume reserve reference ∷ others → ((outcome s).failed ≡ 0) × ((outcome s).price ≡ price) × ((outcome s).volume ≡ volume)
+    → events s (Clear now) ≡ Cleared price volume reserve reference ∷ others → ((outcome s).failed ≡ 0) × ((outcome s).price ≡ price) × ((outcome s).volume ≡ volume)
 unfolding events clear_lines
 events_say s now price volume reserve reference others e =
     let h = line_says (eqb (outcome s).failed 0) (outcome s).price (outcome s).volume _ _ (outcome s).failed price volume reserve reference _ _ others e in
     (eqb-true _ _ h.0, h.1, h.2)
 
-effect_priced : (s : Session) (now : ℤ) → (outcome s).failed ≡ 0 → effect s (clear now) ≡ priced s
+effect_priced : (s : Session) (now : ℤ) → (outcome s).failed ≡ 0 → effect s (Clear now) ≡ priced s
 unfolding effect
 effect_priced s now e = clear_priced s e
 
 pub starts : (s : Session) (j : JustCleared s) → Starts j
 starts s j =
     let u = (after (opened j.opening) j.calls).session in
-    let limits = limits_pass u (clear j.now) j.accepted in
-    let fields = fields_pass u (clear j.now) j.accepted in
+    let limits = limits_pass u (Clear j.now) j.accepted in
+    let fields = fields_pass u (Clear j.now) j.accepted in
     let U = still_unfilled j.opening j.calls (early_clear u j.now j.accepted) in
     let says = events_say u j.now j.price j.volume j.reserve j.reference j.others j.line in
     let is : s ≡ priced u = j.is ∙ effect_priced u j.now says.0 in

@@ -2,7 +2,8 @@
 use Rattle.std.specs.Prelude.{◌≡◌, if◌then◌else◌, List, [], ◌∷◌, nat_le}
 use Rattle.auction_engine.specs.declared.Session.{Session}
 use Rattle.auction_engine.specs.declared.CallRecord.{CallRecord}
-use Rattle.auction_engine.specs.Call.{Call, expire_kind}
+use Rattle.auction_engine.specs.Call.{expire_kind}
+use Rattle.auction_engine.specs.declared.Call.{Call}
 use Rattle.auction_engine.specs.Engine.{answer, call_of, applied}
 use Rattle.course.specs.Course.{begin, run}
 

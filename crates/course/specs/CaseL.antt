@@ -8,7 +8,8 @@ use Rattle.events.specs.declared.Event.{Event}
 use Rattle.events.specs.declared.Event.TheVariants as event
 use Rattle.auction_engine.specs.declared.Session.{Session}
 use Rattle.auction_engine.specs.Session.{fresh}
-use Rattle.auction_engine.specs.Call.{Call, screen, clear, allocate, settle, skip, finish}
+use Rattle.auction_engine.specs.declared.Call.{Call}
+use Rattle.auction_engine.specs.declared.Call.TheVariants.{Screen, Clear, Allocate, Settle, Skip, Finish}
 use Rattle.auction_engine.specs.Engine.{refusal, effect, events}
 use Rattle.auction_engine.specs.Opening.{header_refusal, with_rows, RowsAccepted}
 
@@ -37,7 +38,7 @@ abbrev pub rows : List Row
 rows = row 1 0 60 12 5 ∷ row 2 0 40 11 3 ∷ row 3 1 4 9 4 ∷ row 4 1 3 11 3 ∷ []
 
 abbrev pub passed : (order side id : ℕ) → Call
-passed order side id = screen (pos 150) order side 0 true (replicate 16 id)
+passed order side id = Screen (pos 150) order side 0 true (replicate 16 id)
 
 -- 'Four passed screens with distinct ids, CL, AL 2, AL 5, ST 0, ST 1, SK 2 reason 6, FN; now is 150'
 abbrev pub calls : List Call
@@ -46,13 +47,13 @@ calls =
     ∷ passed 1 0 2
     ∷ passed 2 1 3
     ∷ passed 3 1 4
-    ∷ clear (pos 150)
-    ∷ allocate (pos 150) 2
-    ∷ allocate (pos 150) 5
-    ∷ settle 0
-    ∷ settle 1
-    ∷ skip (pos 150) 2 6
-    ∷ finish (pos 150)
+    ∷ Clear (pos 150)
+    ∷ Allocate (pos 150) 2
+    ∷ Allocate (pos 150) 5
+    ∷ Settle 0
+    ∷ Settle 1
+    ∷ Skip (pos 150) 2 6
+    ∷ Finish (pos 150)
     ∷ []
 
 -- each call is accepted, with these events

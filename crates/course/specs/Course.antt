@@ -3,7 +3,8 @@ use Rattle.std.specs.Prelude.{Bool, false, if◌then◌else◌, not, ◌||◌, L
 use Rattle.events.specs.declared.Print.{Print}
 use Rattle.auction_engine.specs.declared.Session.{Session}
 use Rattle.auction_engine.specs.Session.{fill_at, allocating}
-use Rattle.auction_engine.specs.Call.{Call, screen, clear, allocate, exercise, close, settle, skip, finish, expire}
+use Rattle.auction_engine.specs.declared.Call.{Call}
+use Rattle.auction_engine.specs.declared.Call.TheVariants.{Screen, Clear, Allocate, Exercise, Close, Settle, Skip, Finish, Expire}
 use Rattle.auction_engine.specs.Settlement.{moved_volume, print_of}
 use Rattle.auction_engine.specs.Engine.{refusal, effect}
 
@@ -45,22 +46,22 @@ with_session r s = run_of s r.purchases r.settled r.skipped r.skipped_qty r.cran
 
 -- an accepted call that hands back s, noted
 unfoldable pub note : Run → Session → Call → Run
-note r s (screen now i side verdict has_id id) = with_session r s
-note r s (clear now) = with_session r s
-note r s (allocate now n) =
+note r s (Screen now i side verdict has_id id) = with_session r s
+note r s (Clear now) = with_session r s
+note r s (Allocate now n) =
     run_of s r.purchases r.settled r.skipped r.skipped_qty (r.crank_fills + (s.fill_count - r.session.fill_count))
     r.prints r.printed_qty (r.complete || not (s.phase == allocating))
-note r s (exercise now issuer i q) =
+note r s (Exercise now issuer i q) =
     run_of s (record { fill = i; qty = q } ∷ r.purchases) r.settled r.skipped r.skipped_qty r.crank_fills r.prints r.printed_qty r.complete
-note r s (close now caller) = with_session r s
-note r s (settle i) =
+note r s (Close now caller) = with_session r s
+note r s (Settle i) =
     run_of s r.purchases (i ∷ r.settled) r.skipped r.skipped_qty r.crank_fills r.prints r.printed_qty r.complete
-note r s (skip now i reason) =
+note r s (Skip now i reason) =
     run_of s r.purchases r.settled (i ∷ r.skipped) (r.skipped_qty + (fill_at r.session i).qty) r.crank_fills r.prints r.printed_qty r.complete
-note r s (finish now) =
+note r s (Finish now) =
     run_of s r.purchases r.settled r.skipped r.skipped_qty r.crank_fills
     (print_of r.session ∷ r.prints) (r.printed_qty + moved_volume r.session) r.complete
-note r s (expire now) =
+note r s (Expire now) =
     run_of s r.purchases r.settled r.skipped r.skipped_qty r.crank_fills r.prints r.printed_qty false
 
 -- 'each call gets the session that the one before it handed back'; a refused call leaves all as it was

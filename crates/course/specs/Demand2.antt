@@ -7,14 +7,13 @@ use Rattle.credit_math.specs.Error.{no_cross}
 use Rattle.book.specs.Book.{is_buy}
 use Rattle.book.specs.Clear.{live_orders, allocations, floor_of, too_few_reveals, mark_unavailable, math_overflow}
 use Rattle.book.specs.Claims as book
-use Rattle.events.specs.Events.{packed}
 use Rattle.events.specs.declared.Event.TheVariants as event
 use Rattle.auction_engine.specs.declared.Session.{Session}
-use Rattle.auction_engine.specs.declared.Answer.{Answer}
 use Rattle.auction_engine.specs.Session.{order_at, remake, at_phase, allocating, failed}
-use Rattle.auction_engine.specs.Call.{clear, limits_refusal, fields_refusal}
+use Rattle.auction_engine.specs.Call.{limits_refusal, fields_refusal}
+use Rattle.auction_engine.specs.declared.Call.TheVariants.{Clear}
 use Rattle.auction_engine.specs.Clearing.{clear_checks, with_lot, with_lots}
-use Rattle.auction_engine.specs.Engine.{refused_by, answer}
+use Rattle.auction_engine.specs.Engine.{Answered, refused_by, answer}
 
 -- 'Library call, any' | 9; 4, then 'Clear' | 11; 10; 16
 abbrev pub checks : Session → (now : ℤ) → ℕ
@@ -40,11 +39,11 @@ module _ (s : Session) where
   lots_at price = allocations s.orders s.order_count price (executed_at price)
 
   -- 'Failing to clear is an accepted answer': phase Failed, nothing else changes, and `failed R`
-  abbrev pub fails : (reason : ℕ) → Answer
-  fails reason = record { refusal = 0; session = at_phase s failed; events = packed (event.SessionFailed reason ∷ event.PhaseChanged s.phase failed ∷ []) }
+  abbrev pub fails : (reason : ℕ) → Answered
+  fails reason = record { refusal = 0; session = at_phase s failed; events = event.SessionFailed reason ∷ event.PhaseChanged s.phase failed ∷ [] }
 
   -- a clear at a price: its figures and lots, phase Allocating, and `clear PRICE VOLUME RESERVE REFERENCE`
-  abbrev pub clears : (price : ℕ) → Answer
+  abbrev pub clears : (price : ℕ) → Answered
   clears price =
       record {
         refusal = 0;
@@ -60,7 +59,7 @@ module _ (s : Session) where
             (with_lots s.orders (lots_at price) s.order_count)
             s.fills s.fill_count;
         events =
-            packed (event.Cleared price (executed_at price) (floor_of s.params s.given) s.given.reference ∷ event.PhaseChanged s.phase allocating ∷ []);
+            event.Cleared price (executed_at price) (floor_of s.params s.given) s.given.reference ∷ event.PhaseChanged s.phase allocating ∷ [];
       }
 
   -- the lots in the orders of a session t that was cleared at a price
@@ -74,7 +73,7 @@ module _ (s : Session) where
     pub others : (i : ℕ) → i < s.order_count → book.takes_part s.params s.given s.orders s.order_count price i ≡ false → (order_at t i).alloc ≡ 0
 
   -- what a clear that passes the checks answers, one of five
-  pub data RightClear (a : Answer) : Type 0 where
+  pub data RightClear (a : Answered) : Type 0 where
     -- 'TooFewReveals 1 (live orders below min_reveals)'
     too_few : length (live_orders s.orders s.order_count) < s.params.min_reveals → a ≡ fails too_few_reveals → RightClear a
     -- 'MarkUnavailable 3 (unforced, mark 0)'
@@ -89,8 +88,8 @@ module _ (s : Session) where
 
 -- Demand 2
 pub record Demand2 (s : Session) (now : ℤ) : Type 0 where
-  pub turned_away : checks s now ≢ 0 → answer s (clear now) ≡ refused_by s (checks s now)
-  pub right : checks s now ≡ 0 → RightClear s (answer s (clear now))
-  pub one_answer : checks s now ≡ 0 → (a : Answer) → RightClear s a → a ≡ answer s (clear now)
+  pub turned_away : checks s now ≢ 0 → answer s (Clear now) ≡ refused_by s (checks s now)
+  pub right : checks s now ≡ 0 → RightClear s (answer s (Clear now))
+  pub one_answer : checks s now ≡ 0 → (a : Answered) → RightClear s a → a ≡ answer s (Clear now)
   -- 'with enough live orders, and a mark unless the sale is forced, clearing ends in NoCross exactly when ..'
-  pub no_cross_exactly : checks s now ≡ 0 → Clearable s → (answer s (clear now) ≡ fails s no_cross) ↔ ((q : ℕ) → Executes s q → ⊥)
+  pub no_cross_exactly : checks s now ≡ 0 → Clearable s → (answer s (Clear now) ≡ fails s no_cross) ↔ ((q : ℕ) → Executes s q → ⊥)

@@ -9,7 +9,8 @@ use Rattle.events.specs.declared.Event.{Event}
 use Rattle.events.specs.declared.Event.TheVariants.{Cleared}
 use Rattle.auction_engine.specs.declared.Session.{Session}
 use Rattle.auction_engine.specs.Session.{order_at, allocating}
-use Rattle.auction_engine.specs.Call.{Call, screen, clear, allocate, exercise, close, settle, skip, finish, expire}
+use Rattle.auction_engine.specs.declared.Call.{Call}
+use Rattle.auction_engine.specs.declared.Call.TheVariants.{Screen, Clear, Allocate, Exercise, Close, Settle, Skip, Finish, Expire}
 use Rattle.auction_engine.specs.Clearing.{outcome}
 use Rattle.auction_engine.specs.Engine.{refusal, effect, events}
 use Rattle.auction_engine.specs.Opening.{Opening, opened}
@@ -25,14 +26,14 @@ pub record JustCleared (s : Session) : Type 0 where
   pub opening : Opening
   pub calls : List Call
   pub now : ℤ
-  pub accepted : refusal (after (opened opening) calls).session (clear now) ≡ 0
+  pub accepted : refusal (after (opened opening) calls).session (Clear now) ≡ 0
   pub price : ℕ
   pub volume : ℕ
   pub reserve : ℕ
   pub reference : ℕ
   pub others : List Event
-  pub line : events (after (opened opening) calls).session (clear now) ≡ Cleared price volume reserve reference ∷ others
-  pub is : s ≡ effect (after (opened opening) calls).session (clear now)
+  pub line : events (after (opened opening) calls).session (Clear now) ≡ Cleared price volume reserve reference ∷ others
+  pub is : s ≡ effect (after (opened opening) calls).session (Clear now)
 
 -- 'An order's lot is what `compute_clear` allots it by pro-rata, otherwise 0'
 abbrev pub lot_of : {s : Session} → JustCleared s → ℕ → ℕ
@@ -62,15 +63,15 @@ sold s owner = sum_over (sold_by owner) no_fill s.fills s.fill_count
 
 -- an allocate's allowance
 abbrev pub allowance : Call → ℕ
-allowance (screen now i side verdict has_id id) = 0
-allowance (clear now) = 0
-allowance (allocate now n) = n
-allowance (exercise now issuer i q) = 0
-allowance (close now caller) = 0
-allowance (settle i) = 0
-allowance (skip now i reason) = 0
-allowance (finish now) = 0
-allowance (expire now) = 0
+allowance (Screen now i side verdict has_id id) = 0
+allowance (Clear now) = 0
+allowance (Allocate now n) = n
+allowance (Exercise now issuer i q) = 0
+allowance (Close now caller) = 0
+allowance (Settle i) = 0
+allowance (Skip now i reason) = 0
+allowance (Finish now) = 0
+allowance (Expire now) = 0
 
 -- those of a list, refused ones included, added up
 abbrev pub allowances : List Call → ℕ
@@ -79,15 +80,15 @@ allowances (c ∷ calls) = allowance c + allowances calls
 
 -- the list has an accepted expire: from any run on
 abbrev pub is_expire : Call → Bool
-is_expire (screen now i side verdict has_id id) = false
-is_expire (clear now) = false
-is_expire (allocate now n) = false
-is_expire (exercise now issuer i q) = false
-is_expire (close now caller) = false
-is_expire (settle i) = false
-is_expire (skip now i reason) = false
-is_expire (finish now) = false
-is_expire (expire now) = true
+is_expire (Screen now i side verdict has_id id) = false
+is_expire (Clear now) = false
+is_expire (Allocate now n) = false
+is_expire (Exercise now issuer i q) = false
+is_expire (Close now caller) = false
+is_expire (Settle i) = false
+is_expire (Skip now i reason) = false
+is_expire (Finish now) = false
+is_expire (Expire now) = true
 
 abbrev pub expires : Session → List Call → Bool
 expires s [] = false

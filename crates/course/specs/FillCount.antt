@@ -4,7 +4,7 @@ use Rattle.laws.specs.Lists.{table}
 use Rattle.fills.specs.FillCount.{fill_count, fill_count_answer}
 use Rattle.auction_engine.specs.declared.Session.{Session}
 use Rattle.auction_engine.specs.Session.{order_at}
-use Rattle.auction_engine.specs.Call.{Call}
+use Rattle.auction_engine.specs.declared.Call.{Call}
 use Rattle.course.specs.Demand3.{after, JustCleared, lot_of, orders_with_lot, allowances, expires}
 
 -- 'the lots alone, lent with their sides in book order'

@@ -3,11 +3,12 @@ use Rattle.std.specs.Prelude.{◌≡◌, Bool, false, if◌then◌else◌, not, 
 use Rattle.laws.specs.Lists.{Member}
 use Rattle.disclosure.specs.Disclosure.{disclose_answer}
 use Rattle.events.specs.declared.Event.{Event}
-use Rattle.events.specs.declared.Event.TheVariants.{Nothing, OrderScreened, Cleared, SessionFailed, FillAllocated, RofrExercised, RofrClosed, FillSettled, FillSkipped, ClearingPrint, PhaseChanged, Opened, Ordered, Refused}
+use Rattle.events.specs.declared.Event.TheVariants.{OrderScreened, Cleared, SessionFailed, FillAllocated, RofrExercised, RofrClosed, FillSettled, FillSkipped, ClearingPrint, PhaseChanged, Opened, Ordered, Refused}
 use Rattle.events.specs.declared.Print.{Print}
 use Rattle.auction_engine.specs.declared.Session.{Session}
 use Rattle.auction_engine.specs.Session.{allocating, failed}
-use Rattle.auction_engine.specs.Call.{Call, screen, clear, allocate, exercise, close, settle, skip, finish, expire}
+use Rattle.auction_engine.specs.declared.Call.{Call}
+use Rattle.auction_engine.specs.declared.Call.TheVariants.{Screen, Clear, Allocate, Exercise, Close, Settle, Skip, Finish, Expire}
 use Rattle.auction_engine.specs.Engine.{refusal, events, answer}
 use Rattle.course.specs.Course.{Purchase, Run}
 use Rattle.course.specs.Demand3.{after}
@@ -41,7 +42,6 @@ nothing_told = told_of [] [] 0 0 [] false
 -- one line more: `rofr F NEW QTY PRICE` is a purchase of QTY of F; `skip F QTY REASON` skips F and its QTY; `fill ..` is a crank's fill; 'the
 -- print is the numbers after the word'; the matching is complete from a change of phase out of Allocating until Deadline, `failed 4`
 abbrev pub tell : Told → Event → Told
-tell t Nothing = t
 tell t (OrderScreened order exclusion) = t
 tell t (Cleared price volume reserve reference) = t
 tell t (SessionFailed reason) =
@@ -74,15 +74,15 @@ notes_of r =
 
 -- 'Settled .. fills are the fill numbers of the accepted settles', the latest first: a fill that the issuer took whole is settled without a line
 abbrev pub settled_by : Session → Call → List ℕ
-settled_by s (screen now i side verdict has_id id) = []
-settled_by s (clear now) = []
-settled_by s (allocate now n) = []
-settled_by s (exercise now issuer i q) = []
-settled_by s (close now caller) = []
-settled_by s (settle i) = if (answer s (settle i)).refusal == 0 then i ∷ [] else []
-settled_by s (skip now i reason) = []
-settled_by s (finish now) = []
-settled_by s (expire now) = []
+settled_by s (Screen now i side verdict has_id id) = []
+settled_by s (Clear now) = []
+settled_by s (Allocate now n) = []
+settled_by s (Exercise now issuer i q) = []
+settled_by s (Close now caller) = []
+settled_by s (Settle i) = if (answer s (Settle i)).refusal == 0 then i ∷ [] else []
+settled_by s (Skip now i reason) = []
+settled_by s (Finish now) = []
+settled_by s (Expire now) = []
 
 abbrev pub settled_in : Session → List Call → List ℕ
 settled_in s [] = []

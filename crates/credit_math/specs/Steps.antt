@@ -1,4 +1,4 @@
--- What the private functions of the price search keep on the way: forms that are cheap to compute. proofs/Price.antt, proofs/Search.antt and proofs/Sorted.antt
+-- What the private functions of the price search keep on the way: forms that are cheap to compute. proofs/Price.antt and proofs/Search.antt
 -- show that they come to the definitions of Price.antt.
 use Rattle.std.specs.Prelude.{◌≡◌, Bool, if◌then◌else◌, List, ℕ, min, nat_lt, nat_le, Option, Some, None}
 use Rattle.laws.specs.Lex.{lex}

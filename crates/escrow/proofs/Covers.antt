@@ -1,5 +1,5 @@
 -- The test of an order by its kind, and what an escrow covers that its order was not refused for. Assumes nothing.
-use mathlib.Core.Path.{◌≡◌, refl, sym, ◌∙◌}
+use mathlib.Core.Path.{◌≡◌, refl, ◌∙◌}
 use mathlib.Core.Logic.{◌≢◌}
 use mathlib.Core.Bool.{Bool, true, false, not, ◌||◌, false≢true}
 use Prim.Native.Nat.{ℕ, ◌*◌, ◌^◌, ◌≤◌}
@@ -15,20 +15,12 @@ use Rattle.escrow.specs.Cover.{gross, needed, covered, cover_refusal}
 use Rattle.escrow.specs.Claims.{Covers, NotRefusedCovers}
 use Rattle.escrow.proofs.Powers.{ten_positive}
 
-hidden : (r t : Bool) → r ≡ false → true ≡ not r || t
-hidden true t e = absurd (false≢true (sym e))
-hidden false t e = refl
-
 shown : (r t : Bool) → r ≡ true → t ≡ not r || t
 shown true t e = refl
 shown false t e = absurd (false≢true e)
 
--- ---- the test of an unrevealed order, of a buy and of a sell
+-- ---- the test of a buy and of a sell
 module _ (decimals : ℕ) (row : Row) where
-  pub covered_hidden : row.revealed ≡ false → true ≡ covered decimals row
-  unfolding covered
-  covered_hidden e = hidden row.revealed _ e
-
   pub covered_buy : row.revealed ≡ true → row.side ≡ buy_side → leb (gross row.qty row.limit decimals) row.escrowed ≡ covered decimals row
   unfolding covered needed
   covered_buy e side = rw (eq-eqb row.side buy_side side) (shown row.revealed _ e)

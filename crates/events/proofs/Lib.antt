@@ -1,2 +1,2 @@
--- Laws of the events of a call.
-pub mod Packed
+-- What a push leaves.
+pub mod Room

@@ -1,14 +1,17 @@
 -- Counting the fills: what a hand has ahead of it, and what a turn leaves. Assumes nothing.
-use mathlib.Core.Path.{◌≡◌, refl, ◌∙◌}
-use mathlib.Core.Bool.{true, ◌||◌}
+use mathlib.Core.Path.{◌≡◌, refl, sym, ◌∙◌}
+use mathlib.Core.Bool.{Bool, true, false, ◌||◌, ◌&&◌, false≢true}
 use mathlib.Core.List.{List, []}
-use Prim.Native.Nat.{ℕ, suc, ◌+◌, ◌≤◌, ◌<◌}
+use Prim.Native.Nat.{ℕ, zero, suc, ◌+◌, ◌≤◌, ◌<◌}
 use native.Mathlib.Omega.{arith}
-use lib.Dec.{ltb}
-use lib.ListN.{length}
+use borrow.Author.Tests.{lt-ltb}
+use lib.Dec.{eqb, ltb}
+use lib.ListN.{length, get_or}
 use lib.Seq.{drop-cons}
 use Rattle.std.proofs.lemmas.Grind.{common_steps}
+use Rattle.laws.specs.Sums.{only}
 use Rattle.laws.specs.Lists.{table, keep}
+use Rattle.laws.proofs.Tests.{both}
 use Rattle.laws.proofs.Lists.{length_table, get_or_table}
 use Rattle.credit_math.specs.Limits.{max_orders}
 use Rattle.book.specs.Book.{buy_side, sell_side}
@@ -27,6 +30,28 @@ module _ (side : ℕ) (lots sides : List ℕ) where
   take_next hand x w e l =
       let T = table (lot_on side lots sides) (length lots) in
       grind (arith, common_steps, nonzero_none hand.left, drop-cons T hand.next 0, get_or_table (lot_on side lots sides), length_table (lot_on side lots sides))
+
+  -- a lot of the side is the next; any other order, and a lot of 0, has none
+  lot_of : (i : ℕ) → (eqb (get_or sides i 0) side && ltb 0 (get_or lots i 0)) ≡ true → get_or lots i 0 ≡ lot_on side lots sides i
+  unfolding lot_on
+  lot_of i h = let p = both (eqb (get_or sides i 0) side) (ltb 0 (get_or lots i 0)) h in rw p.0
+
+  no_lot : (i : ℕ) → (eqb (get_or sides i 0) side && ltb 0 (get_or lots i 0)) ≡ false → 0 ≡ lot_on side lots sides i
+  unfolding lot_on
+  no_lot i h = go (eqb (get_or sides i 0) side) (get_or lots i 0) h
+    where
+      go : (t : Bool) (lot : ℕ) → (t && ltb 0 lot) ≡ false → 0 ≡ only t lot
+      go false lot h = refl
+      go true zero h = refl
+      go true (suc lot) h = absurd (false≢true (sym h ∙ lt-ltb 0 (suc lot) (omega arith)))
+
+  pub next_taken : (i : ℕ) → i < length lots → (eqb (get_or sides i 0) side && ltb 0 (get_or lots i 0)) ≡ true
+      → nonzero (ahead side lots sides (record { left = get_or lots i 0; next = i + 1 })) ≡ nonzero (ahead side lots sides (record { left = 0; next = i }))
+  next_taken i l h = take_next (record { left = 0; next = i }) (get_or lots i 0) (lot_of i h) refl l
+
+  pub next_passed : (i : ℕ) → i < length lots → (eqb (get_or sides i 0) side && ltb 0 (get_or lots i 0)) ≡ false
+      → nonzero (ahead side lots sides (record { left = 0; next = i + 1 })) ≡ nonzero (ahead side lots sides (record { left = 0; next = i }))
+  next_passed i l h = take_next (record { left = 0; next = i }) 0 (no_lot i h) refl l
 
   -- past the last order an empty hand has nothing ahead
   pub nothing_ahead : (hand : Hand) → hand.left ≡ 0 → length lots ≤ hand.next → nonzero (ahead side lots sides hand) ≡ []

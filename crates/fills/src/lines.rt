@@ -59,19 +59,22 @@ impl Lots<'_> {
         requires { hand.next ≤ length self.now.lots.now }
         ensures { Taken side self.now.lots.now self.now.sides.now hand result }
     {
-        let mut now = hand;
-        while now.left == 0 && now.next < self.lots.len() {
-            let i = now.next;
-            now = Hand {
-                left: if self.sides[i] == side {
-                    self.lots[i]
-                } else {
-                    0
-                },
-                next: i + 1,
-            };
+        if hand.left != 0 {
+            return hand;
         }
-        now
+        for next in hand.next..self.lots.len() {
+            let lot = self.lots[next];
+            if (self.sides[next] == side) & (0 < lot) {
+                return Hand {
+                    left: lot,
+                    next: next + 1,
+                };
+            }
+        }
+        Hand {
+            left: 0,
+            next: self.lots.len(),
+        }
     }
 }
 

@@ -50,7 +50,7 @@ impl Seen {
 
     // One participant more, unless it was seen.
     #[tactic(auto, using(crate::proofs::Noting::contains_reverse, std::proofs::lemmas::Grind::common_steps))]
-    pub fn note(&mut self, who: Participant)
+    pub(crate) fn note(&mut self, who: Participant)
         requires { length self.old < 2 * max_fills }
         ensures { self.new ≡ noted self.old who }
     {

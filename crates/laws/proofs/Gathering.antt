@@ -79,7 +79,3 @@ module _ {A B : Type 0} {p : A → Bool} {f : A → B} {n : ℕ} where
     -- one more, written at the next place
     pub gathering_more : (b : Bool) → b ≡ p x → Gathering p f n (l ++ (x ∷ [])) (count + only b 1) (set out count v)
     gathering_more b e = go b (sym e)
-
-  -- no more are kept than were seen
-  pub gathering_few : {l : List A} {count : ℕ} {out : List B} → Gathering p f n l count out → count ≤ length l
-  gathering_few {l} {count} {out} g = omega (arith, g.held, keep_short p l)

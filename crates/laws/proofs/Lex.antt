@@ -46,11 +46,6 @@ lex_tests a b r =
     (tested (eqb a b)))
     (tested (ltb a b))
 
--- where equals are not told apart, it is the test alone
-pub lex_false : (a b : ℕ) → lex a b false ≡ ltb a b
-unfolding lex
-lex_false a b = ⊎_elim (λ (t : ltb a b ≡ true). rw t) (λ (t : ltb a b ≡ false). ⊎_elim (λ (u : ltb b a ≡ true). rw (t, u)) (λ (u : ltb b a ≡ false). rw (t, u)) (tested (ltb b a))) (tested (ltb a b))
-
 pub lex_trans : (a b c : ℕ) (r s t : Bool) → (r ≡ true → s ≡ true → t ≡ true) → lex a b r ≡ true → lex b c s ≡ true → lex a c t ≡ true
 lex_trans a b c r s t f h k =
     ⊎_elim

@@ -1,18 +1,15 @@
 -- Laws of tables, stores, filters and equal lists. Assumes nothing.
 use mathlib.Core.Path.{◌≡◌, refl, sym, ap, ap₂, ◌∙◌, subst}
 use mathlib.Core.Logic.{◌≢◌, ◌↔◌, inl, inr, ⊎_elim}
-use mathlib.Core.Bool.{Bool, true, false, cond, ◌&&◌}
+use mathlib.Core.Bool.{Bool, true, false, cond}
 use mathlib.Core.List.{List, [], ◌∷◌, map}
-use Prim.Native.Nat.{ℕ, zero, suc, ◌+◌, ◌≤◌, ◌<◌}
-use native.Mathlib.Nat.{le_of_suc-le-suc, lt_of_lt_of_le, ne_of_lt}
-use native.Mathlib.Numerals.{add-one}
+use Prim.Native.Nat.{ℕ, zero, suc, ◌≤◌, ◌<◌}
+use native.Mathlib.Nat.{le_of_suc-le-suc, lt_of_lt_of_le}
 use native.Mathlib.Omega.{arith}
-use borrow.Author.Count.{below_more}
-use borrow.Author.Tests.{eqb-true, eq-eqb, ne_eqb}
-use lib.Dec.{eqb}
+use borrow.Author.Tests.{eqb-true, eq-eqb}
 use Rattle.std.proofs.lemmas.List.{get_or-map}
-use lib.ListN.{length, get_or, set, drop, replicate, length-set, length-map, length-replicate, get_or-replicate, drop_of_length-le, get_or-eq_default}
-use lib.Seq.{ext_get_or, get_or-set_same, get_or-set_other, drop-cons}
+use lib.ListN.{length, get_or, set, drop, replicate, length-map, length-replicate, get_or-replicate, drop_of_length-le, get_or-eq_default}
+use lib.Seq.{ext_get_or}
 use Rattle.laws.specs.Sums.{sum_below, sum_of, sum_over}
 use Rattle.laws.specs.Lists.{table, keep, Member, same}
 use Rattle.laws.proofs.Tests.{both, clash, lt_or_le}
@@ -103,18 +100,6 @@ pub record Writing {A : Type 0} (f : ℕ → A) (d : A) (n i : ℕ) (out : List 
   pub done : (k : ℕ) → k < i → get_or out k d ≡ f k
 
 module _ {A : Type 0} {f : ℕ → A} {d : A} {n : ℕ} where
-  pub writing : {out : List A} → length out ≡ n → Writing f d n 0 out
-  writing {out} e = record { whole = e; done = λ k h. absurd (omega (arith, h)) }
-
-  pub writing_more : {i : ℕ} {out : List A} (v : A) → Writing f d n i out → i < n → v ≡ f i → Writing f d n (i + 1) (set out i v)
-  writing_more {i} {out} v w h e = record {
-    whole = length-set out i v ∙ w.whole;
-    done =
-        below_more (λ k. get_or (set out i v) k d ≡ f k) i
-        (λ k l. get_or-set_other out i k v d (ne_of_lt l) ∙ w.done k l)
-        (get_or-set_same out i v d (subst (λ (m : ℕ). i < m) (sym w.whole) h) ∙ e);
-  }
-
   pub written : {i : ℕ} {out : List A} → Writing f d n i out → n ≤ i → out ≡ table f n
   written {i} {out} w h = is_table f n d out w.whole (λ k l. w.done k (lt_of_lt_of_le l h))
 
@@ -154,15 +139,6 @@ SamePast a b k i = (i ≤ k) × (same a b ≡ same (drop i a) (drop i b))
 module _ (a b : List ℕ) (k i : ℕ) (ha : length a ≡ k) (hb : length b ≡ k) where
   pub same_end : SamePast a b k i → k ≤ i → true ≡ same a b
   same_end v h = rw (v.1, drop_of_length-le a {i = i} (omega arith), drop_of_length-le b {i = i} (omega arith))
-
-  same_next : i < k → same (drop i a) (drop i b) ≡ (eqb (get_or a i 0) (get_or b i 0) && same (drop (suc i) a) (drop (suc i) b))
-  same_next h = rw (drop-cons a i 0 (omega arith), drop-cons b i 0 (omega arith))
-
-  pub same_stop : i < k → SamePast a b k i → (get_or a i 0 ≡ get_or b i 0 → ⊥) → false ≡ same a b
-  same_stop h v e = rw (v.1, same_next h, ne_eqb _ _ e)
-
-  pub same_more : i < k → SamePast a b k i → get_or a i 0 ≡ get_or b i 0 → SamePast a b k (i + 1)
-  same_more h v e = (omega arith, v.1 ∙ rw (add-one, same_next h, eq-eqb _ _ e))
 
 -- what stands among those that pass: what stands in the list and passes
 pub keep_members : (p : ℕ → Bool) (z : ℕ) (l : List ℕ) → Member z (keep p l) ↔ (Member z l × (p z ≡ true))

@@ -3,10 +3,10 @@ use mathlib.Core.Path.{◌≡◌, refl}
 use mathlib.Core.Logic.{◌≢◌}
 use mathlib.Core.Bool.{Bool, true, false, not}
 use mathlib.Core.List.{List}
-use Prim.Native.Nat.{ℕ, ◌+◌, ◌-◌, ◌≤◌, min}
+use Prim.Native.Nat.{ℕ, ◌+◌, ◌-◌, ◌≤◌}
 use native.Mathlib.Omega.{arith}
-use borrow.Author.Tests.{ltb-true, ltb-false, eq-eqb, ne_eqb}
-use lib.Dec.{ltb, eqb}
+use borrow.Author.Tests.{eq-eqb, ne_eqb}
+use lib.Dec.{eqb}
 use Rattle.laws.specs.Sums.{only}
 use Rattle.laws.specs.Lists.{same}
 use Rattle.laws.proofs.Lists.{same_eq, same_ne}
@@ -36,10 +36,3 @@ only_not false n = omega arith
 pub only_is : (test : Bool) → eqb (only test 1) 1 ≡ test
 only_is true = refl
 only_is false = refl
-
-pub only_above : (x : ℕ) → only (ltb 0 x) 1 ≡ min 1 x
-only_above x = go (ltb 0 x) refl
-  where
-    go : (y : Bool) → ltb 0 x ≡ y → only y 1 ≡ min 1 x
-    go true e = omega (arith, ltb-true 0 x e)
-    go false e = omega (arith, ltb-false 0 x e)

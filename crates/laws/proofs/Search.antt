@@ -2,11 +2,11 @@
 use mathlib.Core.Path.{◌≡◌, refl, sym, ap, ap₂, ◌∙◌}
 use mathlib.Core.Bool.{Bool, true, false, cond, ◌||◌}
 use Prim.Native.Nat.{ℕ, zero, suc, ◌+◌, ◌≤◌, ◌<◌}
-use native.Mathlib.Nat.{le_refl, le_step, not-suc-le-zero, le_antisymm}
+use native.Mathlib.Nat.{le_refl, le_step, not-suc-le-zero}
 use native.Mathlib.Decide.{ℕ_discrete}
 use native.Mathlib.Numerals.{add-one}
 use native.Mathlib.Omega.{arith}
-use borrow.Author.Tests.{ltb-true, ltb-false, le-ltb, lt-ltb}
+use borrow.Author.Tests.{ltb-true, ltb-false}
 use lib.Dec.{ltb}
 use Rattle.laws.specs.Search.{first, every, some}
 use Rattle.laws.proofs.Tests.{both, clash}
@@ -44,32 +44,6 @@ first_below p (suc n) j l = go (ltb (first p n) n) (p n) refl refl (first_below 
     go false true e q ih d l = ih (omega (arith, ltb-false (first p n) n e))
     go false false e q ih (yes w) l = ap p w ∙ q
     go false false e q ih (no w) l = ih (omega (arith, ltb-false (first p n) n e))
-
--- a loop that searches: nothing found below i, one place more, found at i, and the end
-pub first_start : (p : ℕ → Bool) → first p 0 ≡ 0
-unfolding first
-first_start p = refl
-
-pub first_next : (p : ℕ → Bool) (i : ℕ) → first p i ≡ i → p i ≡ false → first p (i + 1) ≡ i + 1
-unfolding first
-first_next p i e f = rw add-one (rw (e, le-ltb i i (le_refl i), f))
-
-pub first_found : (p : ℕ → Bool) (i n : ℕ) → first p i ≡ i → p i ≡ true → i < n → first p n ≡ i
-unfolding first
-first_found p i zero e t l = absurd (omega arith)
-first_found p i (suc n) e t l = go (ℕ_discrete i n) (first_found p i n e t)
-  where
-    go : Dec (i ≡ n) → (i < n → first p n ≡ i) → cond (ltb (first p n) n) (first p n) (cond (p n) n (suc n)) ≡ i
-    go (yes q) _ = rw (← q, e, le-ltb i i (le_refl i), t)
-    go (no q) ih = let h : first p n ≡ i = ih (omega arith) in rw (h, lt-ltb i n (omega arith))
-
-pub first_end : (p : ℕ → Bool) (n i : ℕ) → first p i ≡ i → i ≤ n → n ≤ i → n ≡ first p n
-first_end p n i e l k = let q : i ≡ n = le_antisymm l k in sym (ap (first p) (sym q) ∙ e ∙ q)
-
--- one place more in a loop that goes on with what it found
-pub first_more : (p : ℕ → Bool) (i found : ℕ) (t : Bool) → found ≡ first p i → t ≡ p i → cond (ltb found i) found (cond t i (i + 1)) ≡ first p (i + 1)
-unfolding first
-first_more p i found t e f = rw (e, f, add-one)
 
 pub every_all : (p : ℕ → Bool) (n : ℕ) → ((i : ℕ) → i < n → p i ≡ true) → every p n ≡ true
 unfolding every
@@ -119,9 +93,6 @@ some_at p (suc n) i l e = go (ℕ_discrete i n) (some p n) refl (λ m. some_at p
     go d true h ih = refl
     go (yes q) false h ih = sym e ∙ ap p q
     go (no q) false h ih = absurd (clash false (sym (ih (omega arith) ∙ h)) refl)
-
-pub some_end : (p : ℕ → Bool) (n i : ℕ) → some p i ≡ false → i ≤ n → n ≤ i → false ≡ some p n
-some_end p n i e l k = sym e ∙ ap (some p) (le_antisymm l k)
 
 -- tests that agree below n
 pub some_same : (p q : ℕ → Bool) (n : ℕ) → ((i : ℕ) → i < n → p i ≡ q i) → some p n ≡ some q n

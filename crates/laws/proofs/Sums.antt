@@ -4,7 +4,7 @@ use mathlib.Core.Logic.{◌≢◌, ⊎_elim}
 use mathlib.Core.Bool.{Bool, true, false}
 use mathlib.Core.List.{List, ◌∷◌}
 use Prim.Native.Nat.{ℕ, zero, suc, ◌+◌, ◌*◌, ◌≤◌, ◌<◌, zero-le}
-use native.Mathlib.Nat.{le_refl, le_step, le_antisymm, suc-mul, eq-or-lt_of_le, le_of_suc-le-suc, eq-zero-or-pos}
+use native.Mathlib.Nat.{le_refl, le_step, suc-mul, eq-or-lt_of_le, le_of_suc-le-suc, eq-zero-or-pos}
 use native.Mathlib.Decide.{ℕ_discrete}
 use native.Mathlib.Numerals.{add-one}
 use native.Mathlib.Omega.{arith}
@@ -35,9 +35,6 @@ sum_head f (suc n) = omega (arith, sum_head f n)
 -- a loop that adds up: one more term, and the end
 pub sum_step : (f : ℕ → ℕ) (i s x s' : ℕ) → s' ≡ s + x → s ≡ sum_below f i → x ≡ f i → s' ≡ sum_below f (i + 1)
 sum_step f i s x s' e g h = omega (arith, sum_more f i)
-
-pub sum_end : (f : ℕ → ℕ) (i n s : ℕ) → s ≡ sum_below f i → i ≤ n → n ≤ i → s ≡ sum_below f n
-sum_end f i n s e g h = e ∙ ap (λ (m : ℕ). sum_below f m) (le_antisymm g h)
 
 -- terms that agree below n
 pub sum_same : (f g : ℕ → ℕ) (n : ℕ) → ((i : ℕ) → i < n → f i ≡ g i) → sum_below f n ≡ sum_below g n

@@ -1,4 +1,2 @@
-// Definitions (specs/) and laws (proofs/) that several crates share, each stated once. The one module of code has lists of checks.
+// Definitions (specs/) and laws (proofs/) that several crates share, each stated once. There is no code.
 #![tactic(auto)]
-
-pub mod checks;

@@ -1,4 +1,3 @@
 -- Laws of a listing's text.
 pub mod Fields
-pub mod Parts
-pub mod Lines
+pub mod Records

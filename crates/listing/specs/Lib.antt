@@ -1,4 +1,3 @@
 -- The text of a listing.
 pub mod Words
 pub mod Lines
-pub mod Parts

@@ -1,11 +1,11 @@
 -- 'Listing': the lines of a record, and the last line.
-use Rattle.std.specs.Prelude.{Bool, if◌then◌else◌, List, [], ◌∷◌, ◌++◌, ℕ, ◌+◌, ◌*◌}
+use Rattle.std.specs.Prelude.{Bool, if◌then◌else◌, List, [], ◌∷◌, ◌++◌, ℕ, ◌+◌, ◌*◌, Option, None, Some}
 use Rattle.std.specs.Int.Count.{ones}
 use Rattle.laws.specs.Sums.{only}
 use Rattle.octets.specs.Decimal.{decimal, max_digits}
 use Rattle.events.specs.Events.{max_events}
 use Rattle.events.specs.declared.Event.{Event}
-use Rattle.events.specs.declared.Event.TheVariants.{Nothing, OrderScreened, Cleared, SessionFailed, FillAllocated, RofrExercised, RofrClosed, FillSettled, FillSkipped, ClearingPrint, PhaseChanged, Opened, Ordered, Refused}
+use Rattle.events.specs.declared.Event.TheVariants.{OrderScreened, Cleared, SessionFailed, FillAllocated, RofrExercised, RofrClosed, FillSettled, FillSkipped, ClearingPrint, PhaseChanged, Opened, Ordered, Refused}
 use Rattle.listing.specs.Words.{open_word, order_word, screen_word, clear_word, failed_word, fill_word, rofr_word, close_word, settle_word, skip_word, print_word, phase_word, refused_word, none_word, end_word, space, newline}
 
 -- numbers, with a space before each
@@ -19,7 +19,6 @@ line number word nums = (((decimal number ++ (space ∷ [])) ++ word) ++ fields 
 
 -- the line of an event; and `open`, `order I`, `refused R`, which are no events of the source
 abbrev pub event_line : (number : ℕ) → Event → List ℕ
-event_line number Nothing = line number none_word []
 event_line number (OrderScreened order exclusion) = line number screen_word (order ∷ exclusion ∷ [])
 event_line number (Cleared price volume reserve reference) = line number clear_word (price ∷ volume ∷ reserve ∷ reference ∷ [])
 event_line number (SessionFailed reason) = line number failed_word (reason ∷ [])
@@ -34,6 +33,11 @@ event_line number (PhaseChanged from to) = line number phase_word (from ∷ to �
 event_line number Opened = line number open_word []
 event_line number (Ordered order) = line number order_word (order ∷ [])
 event_line number (Refused refusal) = line number refused_word (refusal ∷ [])
+
+-- what is said where the source emits nothing, or of an event
+abbrev pub said_line : (number : ℕ) → Option Event → List ℕ
+said_line number None = line number none_word []
+said_line number (Some e) = event_line number e
 
 -- 'Event order is the source's'
 unfoldable pub event_lines : (number : ℕ) → List Event → List ℕ

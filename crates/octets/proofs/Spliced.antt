@@ -25,10 +25,6 @@ splice_splice at p q e h =
     let f : length (take at e ++ p) ≡ at + length p = front_length at p e h in
     rw (splice_front at p e, take_at (take at e ++ p) (drop (at + length p) e) (at + length p) f, ← drop-drop, drop_at (take at e ++ p) (drop (at + length p) e) (at + length p) f, drop-drop, append_assoc, append_assoc, length-append, add_assoc)
 
--- a part stays as long as it is
-pub length_puts : {l : List ℕ} {at r : ℕ} {e e' : List ℕ} → Puts l at r e e' → at + length l ≤ length e → length e' ≡ length e
-length_puts w h = grind (arith, common_steps)
-
 -- nothing is written
 pub puts_none : (at : ℕ) (e : List ℕ) → Puts [] at at e e
 puts_none at e = record { place = sym (add-zero at); bytes = rw (add-zero at) (sym (take-append-drop at e)) }

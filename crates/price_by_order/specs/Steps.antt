@@ -1,4 +1,4 @@
--- What the functions keep on the way. proofs/ByOrder.antt and proofs/Walk.antt show that it comes to the price search of credit_math.
+-- What the functions keep on the way. proofs/Walk.antt shows that it comes to the price search of credit_math.
 use Rattle.std.specs.Prelude.{◌≡◌, Bool, if◌then◌else◌, ◌&&◌, List, ℕ, nat_le, Option}
 use Rattle.credit_math.specs.Price.{Best, none, buy, sell, better, executes, walk}
 use Rattle.credit_math.specs.Steps.{best, AllQuoted}

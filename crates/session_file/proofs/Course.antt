@@ -8,7 +8,8 @@ use Rattle.events.specs.declared.Event.{Event}
 use Rattle.events.specs.declared.Event.TheVariants.{Cleared, Refused}
 use Rattle.auction_engine.specs.declared.Session.{Session}
 use Rattle.auction_engine.specs.Session.{fresh}
-use Rattle.auction_engine.specs.Call.{Call, clear}
+use Rattle.auction_engine.specs.declared.Call.{Call}
+use Rattle.auction_engine.specs.declared.Call.TheVariants.{Clear}
 use Rattle.auction_engine.specs.Engine.{refusal, effect, events, answer}
 use Rattle.auction_engine.specs.Opening.{Opening, opened, with_order, with_rows, RowsAccepted, order_refusal}
 use Rattle.auction_engine.proofs.Orders.{accepted_covered}
@@ -19,10 +20,9 @@ use Rattle.session_file.specs.Marks.{in_place, no_kind, header_kind, order_kind,
 use Rattle.session_file.specs.declared.records.Mark.TheVariants.{SI}
 use Rattle.session_file.specs.Fields.{Read, refused, header, order, call, fields_of}
 use Rattle.session_file.specs.Reads.{mark_at, shape_at, record_at, reading_refusal, read_next, reads_from, reads}
-use Rattle.session_file.specs.Calls.{fields_in}
 use Rattle.session_file.specs.File.{State, start, file_refusal, made, said_by, said_of}
 use Rattle.session_file.specs.Claims.{before_end, made_all, headers_in, rows_in, calls_in, asked_by, IsCourse, FileIsCourse, ClearedInFile, HeaderAsks, OnlySIAsks, CoveredInFile}
-use Rattle.session_file.proofs.Headers.{unasked_read}
+use Rattle.session_file.proofs.Headers.{cover_read, unasked_read}
 use Rattle.session_file.proofs.Reading.{kind_read, passed, read_whole, read_kind}
 
 -- ---- records in the order of their kinds, and records that let the file go on
@@ -251,32 +251,32 @@ unfolding answer
 answer_accepted s c z = rw (eq-eqb (refusal s c) 0 z)
 
 cleared_from : (l : List Read) (f : State) → IsCourse l f → (now : ℤ) (price volume reserve reference : ℕ) (others : List Event)
-    → said_by f (call (clear now)) ≡ Cleared price volume reserve reference ∷ others → JustCleared (made f (call (clear now))).session
+    → said_by f (call (Clear now)) ≡ Cleared price volume reserve reference ∷ others → JustCleared (made f (call (Clear now))).session
 unfolding made
 cleared_from l f o now price volume reserve reference others q =
-    let a = clear_accepted f (clear now) price volume reserve reference others q in
+    let a = clear_accepted f (Clear now) price volume reserve reference others q in
     record {
       opening = o.opening;
       calls = calls_in l;
       now = now;
-      accepted = subst (λ (s : Session). refusal s (clear now) ≡ 0) o.session_is a.0;
+      accepted = subst (λ (s : Session). refusal s (Clear now) ≡ 0) o.session_is a.0;
       price = price;
       volume = volume;
       reserve = reserve;
       reference = reference;
       others = others;
-      line = subst (λ (s : Session). events s (clear now) ≡ Cleared price volume reserve reference ∷ others) o.session_is a.1;
-      is = answer_accepted f.session (clear now) a.0 ∙ ap (λ (s : Session). effect s (clear now)) o.session_is;
+      line = subst (λ (s : Session). events s (Clear now) ≡ Cleared price volume reserve reference ∷ others) o.session_is a.1;
+      is = answer_accepted f.session (Clear now) a.0 ∙ ap (λ (s : Session). effect s (Clear now)) o.session_is;
     }
 
 pub cleared_in_file : ClearedInFile
 cleared_in_file s l k now price volume reserve reference others e q =
     let f : State = made_all start l in
-    let x : Read = call (clear now) in
+    let x : Read = call (Clear now) in
     let z : file_refusal f x ≡ 0 = next_accepted start l x k (file_accepted s l (x ∷ k) e) in
     let v : InOrder call_kind k = rest_in_order no_kind l x k (file_in_order s l (x ∷ k) e) in
     record {
-      just_cleared = cleared_from l f (before_call s l k (clear now) e) now price volume reserve reference others (sym (said_on f x z) ∙ q);
+      just_cleared = cleared_from l f (before_call s l k (Clear now) e) now price volume reserve reference others (sym (said_on f x z) ∙ q);
       calls_after = λ m n h. (only_calls (made f x) m (first_in_order call_kind m n (subst (InOrder call_kind) h v))).session_is ∙ sym (run_is_answers (made f x).session (calls_in m));
     }
 
@@ -305,17 +305,17 @@ first_read (suc n) s x m e = go (ltb 0 (length s)) _ e
     go false l e = cc
 
 -- a header stands first, and its cover is what is asked
-first_asks : (x : Read) (l : List Read) → in_place no_kind (kind_read x) ≡ true → asked_by (headers_in (x ∷ l)) ≡ (fields_in x).cover
+first_asks : (x : Read) (l : List Read) → in_place no_kind (kind_read x) ≡ true → asked_by (headers_in (x ∷ l)) ≡ cover_read x
 first_asks (refused n) l v = absurd (never_refused no_kind v)
 first_asks (header p g cover) l v = refl
 first_asks (order row) l v = absurd (omega (arith, only_header order_kind v))
 first_asks (call c) l v = absurd (omega (arith, only_header call_kind v))
 
-next_unasked : (s : List ℕ) → mark_at s ≢ SI → (fields_in (read_next no_kind s)).cover ≡ None
+next_unasked : (s : List ℕ) → mark_at s ≢ SI → cover_read (read_next no_kind s) ≡ None
 unfolding read_next
 next_unasked s d = go (eqb (reading_refusal no_kind s) 0)
   where
-    go : (t : Bool) → (fields_in (cond t (fields_of (mark_at s) (record_at s)) (refused (reading_refusal no_kind s)))).cover ≡ None
+    go : (t : Bool) → cover_read (cond t (fields_of (mark_at s) (record_at s)) (refused (reading_refusal no_kind s))) ≡ None
     go true = sym (unasked_read (record_at s) (mark_at s) d)
     go false = refl
 
@@ -323,7 +323,7 @@ pub only_si_asks : OnlySIAsks
 only_si_asks s [] k d e = refl
 only_si_asks s (x ∷ l) k d e =
     header_asks s (x ∷ l) k e ∙ first_asks x l (file_in_order s (x ∷ l) k e).0
-    ∙ sym (ap (λ (r : Read). (fields_in r).cover) (first_read (length s) s x (l ++ k) e)) ∙ next_unasked s d
+    ∙ sym (ap cover_read (first_read (length s) s x (l ++ k) e)) ∙ next_unasked s d
 
 pub covered_in_file : CoveredInFile
 unfolding file_refusal

@@ -3,11 +3,9 @@ pub mod Marks
 pub mod Headers
 pub mod Reading
 pub mod Lines
-pub mod FewEvents
 pub mod Stepping
 pub mod Lent
 pub mod Running
-pub mod Ways
 pub mod PartByPart
 pub mod Entry
 pub mod Course

@@ -1,10 +1,8 @@
--- Laws of marks: a number that is no mark's, and the flags of a mark's shape.
+-- A number that is no mark's.
 -- Assumes nothing.
-use Rattle.std.proofs.Common.{◌≡◌, ℕ, ◌≢◌, refl, ne_eqb}
-use Rattle.session_file.specs.declared.records.Mark.{Mark}
-use Rattle.session_file.specs.declared.records.Mark.TheVariants.{Unknown, SH, SI, OR, SC, CL, AL, RX, RC, ST, SK, FN, EX}
-use Rattle.session_file.specs.Marks.{letters, mark_of, shape_of}
-use Rattle.session_file.specs.Heads.{shape_in, flags_in}
+use Rattle.std.proofs.Common.{◌≡◌, ℕ, ◌≢◌, ne_eqb}
+use Rattle.session_file.specs.declared.records.Mark.TheVariants.{Unknown}
+use Rattle.session_file.specs.Marks.{letters, mark_of}
 
 -- none of the twelve
 abbrev pub NoMark : ℕ → Type 0
@@ -30,20 +28,3 @@ mark_none m h =
       ne_eqb m (letters "F" "N") h.0.1,
       ne_eqb m (letters "E" "X") h.1,
     )
-
--- no mark has more flags than the struct of its shape holds
-pub flags_held : (m : Mark) → flags_in (shape_in (shape_of m)) ≡ (shape_of m).flags
-unfolding shape_of
-flags_held Unknown = refl
-flags_held SH = refl
-flags_held SI = refl
-flags_held OR = refl
-flags_held SC = refl
-flags_held CL = refl
-flags_held AL = refl
-flags_held RX = refl
-flags_held RC = refl
-flags_held ST = refl
-flags_held SK = refl
-flags_held FN = refl
-flags_held EX = refl

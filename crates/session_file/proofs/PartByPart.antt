@@ -1,85 +1,21 @@
 -- The parts of a listing in turn are the listing; and a part as the code comes to it. Assumes nothing.
-use Rattle.std.proofs.Common.{◌≡◌, ℕ, zero, suc, ◌+◌, ◌<◌, ◌≤◌, Bool, true, false, cond, eqb, List, [], ◌∷◌, ◌++◌, length, sym, refl, ap, ◌∙◌, ⊎_elim, append-nil, mod-eq_of_lt, arith, le-ltb, lt-ltb, eqb-true, le-leb, None, Option, Ok}
-use borrow.Author.Tests.{eqb-false, lt-leb}
+use Rattle.std.proofs.Common.{◌≡◌, ℕ, zero, suc, ◌+◌, ◌-◌, if◌then◌else◌, ◌<◌, ◌≤◌, true, false, List, [], ◌∷◌, ◌++◌, length, sym, refl, ap, ◌∙◌, ⊎_elim, append-nil, mod-eq_of_lt, arith, le-ltb, lt-ltb, None}
+use borrow.Author.Tests.{lt-leb}
 use Rattle.laws.proofs.Tests.{tested, lt_or_le}
-use Rattle.events.specs.Events.{events_in}
-use Rattle.events.specs.declared.Event.TheVariants.{Opened, Refused}
-use Rattle.events.proofs.Packed.{events_packed, pair_packed}
+use Rattle.events.specs.declared.Event.TheVariants.{Refused}
+use Rattle.laws.specs.Sums.{only}
 use Rattle.listing.specs.Lines.{record_lines}
-use Rattle.octets.specs.Writing.{written, after}
 use Rattle.auction_engine.specs.declared.Session.{Session}
-use Rattle.auction_engine.specs.declared.changes.Change.{Change}
-use Rattle.session_file.specs.declared.fields.Fields.{Fields}
 use Rattle.session_file.specs.declared.file.Place.{Place}
-use Rattle.session_file.specs.declared.file.Step.{Step}
 use Rattle.session_file.specs.declared.parts.Cursor.{Cursor}
-use Rattle.session_file.specs.declared.parts.Next.{Next}
 use Rattle.session_file.specs.Marks.{no_kind}
-use Rattle.session_file.specs.Fields.{Read}
-use Rattle.session_file.specs.File.{state, unopened, file_refusal, made, said_of, start, last_line, max_input, listing}
-use Rattle.session_file.specs.Parts.{state_at, first_place, cursor_at, begun, part_at, next_number, cursor_after, PartPut, parts_from, cursor_from, PartsAreListing, after_record}
-use Rattle.session_file.specs.PartSteps.{parts_left, whole_refused, RecordNext, NextOf, handled_by}
+use Rattle.session_file.specs.File.{unopened, start, last_line, max_input, listing}
+use Rattle.session_file.specs.Parts.{state_at, first_place, cursor_at, begun, part_at, next_number, cursor_after, parts_from, cursor_from, PartsAreListing, after_record}
 use Rattle.session_file.proofs.Lines.{lines_at, lines_start, lines_end, lines_record, onward}
-use Rattle.session_file.proofs.Stepping.{Stepped}
 
--- ---- a part as the code comes to it
--- the session after a record and what is said of it, by the way in which it is run
-pub handled_is : (x : Session) (stage : ℕ) (cover : Option ℕ) (r : Read) (f : Fields) (c : Change) (t : Step) → Stepped x stage cover r f c t
-    → ((handled_by x t c f).session ≡ cond (eqb (file_refusal (state stage cover x) r) 0) (made (state stage cover x) r).session x)
-    × (events_in (handled_by x t c f).said ≡ said_of (state stage cover x) r)
-unfolding handled_by
-handled_is x stage cover r f c t d =
-    ⊎_elim
-    (λ (z : eqb t.refusal 0 ≡ true).
-    let n = eqb-true _ 0 z in
-    ⊎_elim
-    (λ (o : t.opens ≡ true). let e = d.by_opening n o in rw (z, o) (e.0, events_packed (Opened ∷ []) (omega arith) ∙ e.1))
-    (λ (o : t.opens ≡ false).
-    ⊎_elim
-    (λ (u : c.undecided ≡ true). rw (z, o, u) (d.by_apply n o u))
-    (λ (u : c.undecided ≡ false). let e = d.by_change n o u in rw (z, o, u) (e.0, pair_packed c.events ∙ e.1))
-    (tested c.undecided))
-    (tested t.opens))
-    (λ (z : eqb t.refusal 0 ≡ false). let e = d.by_refusal (eqb-false _ 0 z) in rw z (e.0, events_packed (Refused t.refusal ∷ []) (omega arith) ∙ e.1))
-    (tested (eqb t.refusal 0))
-
-module _ (s : List ℕ) (t : Cursor) where
-  -- nothing is put once the last line was
-  pub nothing_put : t.ended ≡ true → (out : List ℕ) → PartPut s t (record { written = Ok 0; cursor = t }) out out
-  unfolding part_at cursor_after written after
-  nothing_put h out = record {
-    writes = record { answer = rw (h, le-leb 0 (length out) (omega arith)); bytes = rw (h, le-leb 0 (length out) (omega arith)) };
-    cursor = rw h;
-    fits = λ _. refl;
-  }
-
-  module _ (live : t.ended ≡ false) where
-    -- 26
-    pub refused_next : t.too_long ≡ true → (r : Next) → r ≡ whole_refused t (length s) → NextOf s t r
-    unfolding part_at cursor_after
-    refused_next h r is = rw is (record {
-      part = λ _. rw (live, h) (ap (record_lines t.number) (sym (events_packed (Refused 26 ∷ []) (omega arith))));
-      last = λ e. absurd (let z : ◌≡◌ {A = Bool} true false = sym e ∙ live in let q : ◌≡◌ {A = ℕ} 0 1 = ap (λ (b : Bool). cond b 0 1) z in omega arith);
-      cursor = rw (live, h);
-    })
-
-    -- a record
-    pub record_next : t.too_long ≡ false → t.place.at < length s → (r : Next) → RecordNext s t r → NextOf s t r
-    unfolding part_at cursor_after
-    record_next h l r d = record {
-      part = λ _. rw (live, h, lt-ltb t.place.at (length s) l) (ap (record_lines t.number) (sym d.said));
-      last = λ e. absurd (let z : ◌≡◌ {A = Bool} true false = sym e ∙ (ap (λ (a : Cursor). a.ended) d.cursor ∙ live) in let q : ◌≡◌ {A = ℕ} 0 1 = ap (λ (b : Bool). cond b 0 1) z in omega arith);
-      cursor = d.cursor ∙ rw (live, h, lt-ltb t.place.at (length s) l);
-    }
-
-    -- the last line
-    pub last_next : t.too_long ≡ false → length s ≤ t.place.at → (r : Next) → r.cursor ≡ cursor_at t.place t.session t.number t.too_long true → NextOf s t r
-    unfolding part_at cursor_after
-    last_next h l r is = record {
-      part = λ e. absurd (let z : ◌≡◌ {A = Bool} true false = sym (ap (λ (a : Cursor). a.ended) is) ∙ e in let q : ◌≡◌ {A = ℕ} 0 1 = ap (λ (b : Bool). cond b 0 1) z in omega arith);
-      last = λ _. rw (live, h, le-ltb t.place.at (length s) l);
-      cursor = is ∙ rw (live, h, le-ltb t.place.at (length s) l);
-    }
+-- what falls with each part
+abbrev pub parts_left : List ℕ → Cursor → ℕ
+parts_left s t = if t.ended then 0 else suc (only t.too_long 1 + (length s - t.place.at))
 
 -- ---- the parts in turn
 -- one part and those after it

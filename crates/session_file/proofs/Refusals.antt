@@ -12,7 +12,9 @@ use Rattle.events.specs.declared.Event.TheVariants.{OrderScreened, FillAllocated
 use Rattle.escrow.specs.Cover.{decimals_refusal, cover_refusal}
 use Rattle.auction_engine.specs.declared.Session.{Session}
 use Rattle.auction_engine.specs.Session.{fill_at, clearing}
-use Rattle.auction_engine.specs.Call.{Call, screen, clear, allocate, exercise, close, settle, skip, finish, expire, arguments_refusal}
+use Rattle.auction_engine.specs.Call.{arguments_refusal}
+use Rattle.auction_engine.specs.declared.Call.{Call}
+use Rattle.auction_engine.specs.declared.Call.TheVariants.{Screen, Clear, Allocate, Exercise, Close, Settle, Skip, Finish, Expire}
 use Rattle.auction_engine.specs.Screening.{screen_events}
 use Rattle.auction_engine.specs.Clearing.{outcome, clear_lines}
 use Rattle.auction_engine.specs.Matching.{due, one, after_fills, done, fill_events, allocate_events}
@@ -169,16 +171,16 @@ settle_line false fill qty price n q = never cc
 
 never_said : (s : Session) (c : Call) (n : ℕ) → events s c ≡ Refused n ∷ [] → ⊥
 unfolding events screen_events clear_lines allocate_events fill_events exercise_events close_events settle_events skip_events finish_events expire_events
-never_said s (screen now i side verdict has_id id) n q = screen_line (eqb s.phase clearing) _ _ _ n q
-never_said s (clear now) n q = clear_line (eqb (outcome s).failed 0) _ _ _ _ _ n _ _ q
-never_said s (allocate now zero) n q = allocate_line false (done (after_fills zero s)) 0 0 0 0 _ _ n [] q
-never_said s (allocate now (suc m)) n q = allocate_line (due s) (done (after_fills (suc m) s)) _ _ _ _ _ _ n (fill_events m (one s)) q
-never_said s (exercise now issuer i qty) n q = never cc
-never_said s (close now caller) n q = never cc
-never_said s (settle i) n q = settle_line (eqb (fill_at s i).qty 0) _ _ _ n q
-never_said s (skip now i reason) n q = never cc
-never_said s (finish now) n q = never cc
-never_said s (expire now) n q = never cc
+never_said s (Screen now i side verdict has_id id) n q = screen_line (eqb s.phase clearing) _ _ _ n q
+never_said s (Clear now) n q = clear_line (eqb (outcome s).failed 0) _ _ _ _ _ n _ _ q
+never_said s (Allocate now zero) n q = allocate_line false (done (after_fills zero s)) 0 0 0 0 _ _ n [] q
+never_said s (Allocate now (suc m)) n q = allocate_line (due s) (done (after_fills (suc m) s)) _ _ _ _ _ _ n (fill_events m (one s)) q
+never_said s (Exercise now issuer i qty) n q = never cc
+never_said s (Close now caller) n q = never cc
+never_said s (Settle i) n q = settle_line (eqb (fill_at s i).qty 0) _ _ _ n q
+never_said s (Skip now i reason) n q = never cc
+never_said s (Finish now) n q = never cc
+never_said s (Expire now) n q = never cc
 
 -- ---- a call of a file
 -- records that let the file go on, and what comes after them

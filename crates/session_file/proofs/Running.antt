@@ -90,7 +90,7 @@ module _ {s e : List ℕ} {p : Place} {x : Session} {number at : ℕ} {e' : List
   text_long line d z = omega (arith, v.room, v.same, v.puts.place, rw (to_end at k e' kept, length-drop) at (longer d z).0)
 
   -- a record's lines are written
-  running_more : {w : Result ℕ Refusal} {n : ℕ} → p.at < length s → Writes (next_lines number s p x) w (take k (drop at e')) y → w ≡ Ok n
+  pub running_more : {w : Result ℕ Refusal} {n : ℕ} → p.at < length s → Writes (next_lines number s p x) w (take k (drop at e')) y → w ≡ Ok n
       → Running s e (after_record s p x).place (after_record s p x).session (number + 1) (at + n) (lent at k e' y)
   running_more h d z =
       let f = more_left v.fuel number s p x h v.enough in
@@ -109,7 +109,7 @@ module _ {s e : List ℕ} {p : Place} {x : Session} {number at : ℕ} {e' : List
       }
 
   -- they do not fit: then the listing does not
-  running_long : {w : Result ℕ Refusal} {r : Refusal} → p.at < length s → Writes (next_lines number s p x) w (take k (drop at e')) y → w ≡ Err r → Ran s w e (lent at k e' y)
+  pub running_long : {w : Result ℕ Refusal} {r : Refusal} → p.at < length s → Writes (next_lines number s p x) w (take k (drop at e')) y → w ≡ Err r → Ran s w e (lent at k e' y)
   running_long {w} h d z =
       let f = more_left v.fuel number s p x h v.enough in
       let n = ap length (ap (λ (l : List ℕ). v.text ++ l) (sym f.2) ∙ v.left) in
@@ -126,18 +126,3 @@ module _ {s e : List ℕ} {p : Place} {x : Session} {number at : ℕ} {e' : List
   running_over {w} h d z =
       let n = ap length (at_end v h) in
       ran_long s e (lent at k e' y) w (longer d z).1 (omega (arith, text_long (last_line (state_at p x)) d z, simp length-append at n)) running_length
-
--- ---- the record at p with session x: the session after it, what was said of it was written after at, and w was answered
-pub record Wrote (s e' : List ℕ) (p : Place) (x x' : Session) (number at : ℕ) (w : Result ℕ Refusal) (e'' : List ℕ) : Type 0 where
-  pub runs : x' ≡ (after_record s p x).session
-  pub part : List ℕ
-  pub same_part : length part ≡ length (take (length e' - at) (drop at e'))
-  pub writes : Writes (record_lines number (after_record s p x).said) w (take (length e' - at) (drop at e')) part
-  pub left : e'' ≡ lent at (length e' - at) e' part
-
-module _ {s e e' e'' : List ℕ} {p : Place} {x x' : Session} {number at : ℕ} {w : Result ℕ Refusal} (v : Running s e p x number at e') (d : Wrote s e' p x x' number at w e'') where
-  pub wrote_more : {n : ℕ} → p.at < length s → w ≡ Ok n → (p' : Place) → p' ≡ (after_record s p x).place → Running s e p' x' (number + 1) (at + n) e''
-  wrote_more h z p' is = rw (d.left, d.runs, is) (running_more v (length e' - at) refl d.part d.same_part h d.writes z)
-
-  pub wrote_long : {r : Refusal} → p.at < length s → w ≡ Err r → Ran s w e e''
-  wrote_long h z = rw d.left (running_long v (length e' - at) refl d.part d.same_part h d.writes z)

@@ -7,7 +7,9 @@ use Rattle.book.specs.declared.Row.{Row}
 use Rattle.escrow.specs.Claims.{Covers}
 use Rattle.events.specs.declared.Event.{Event}
 use Rattle.events.specs.declared.Event.TheVariants.{Cleared, Refused}
-use Rattle.auction_engine.specs.Call.{Call, clear, arguments_refusal}
+use Rattle.auction_engine.specs.Call.{arguments_refusal}
+use Rattle.auction_engine.specs.declared.Call.{Call}
+use Rattle.auction_engine.specs.declared.Call.TheVariants.{Clear}
 use Rattle.auction_engine.specs.Opening.{Opening, opened}
 use Rattle.course.specs.Demand3.{after, JustCleared}
 use Rattle.course.specs.Refusals.{numbers_of}
@@ -75,9 +77,9 @@ pub record StartsDemand3 (f : State) (k : List Read) : Type 0 where
 abbrev pub ClearedInFile : Type 0
 ClearedInFile =
     (s : List ℕ) (l k : List Read) (now : ℤ) (price volume reserve reference : ℕ) (others : List Event)
-    → before_end start (reads s) ≡ l ++ (call (clear now) ∷ k)
-    → said_of (made_all start l) (call (clear now)) ≡ Cleared price volume reserve reference ∷ others
-    → StartsDemand3 (made (made_all start l) (call (clear now))) k
+    → before_end start (reads s) ≡ l ++ (call (Clear now) ∷ k)
+    → said_of (made_all start l) (call (Clear now)) ≡ Cleared price volume reserve reference ∷ others
+    → StartsDemand3 (made (made_all start l) (call (Clear now))) k
 
 -- what headers ask of escrows: what the first asks
 abbrev pub asked_by : List Header → Option ℕ

@@ -3,7 +3,8 @@ use Rattle.std.specs.Prelude.{ℕ, List, None, Option, Some}
 use Rattle.book.specs.declared.Params.{Params}
 use Rattle.book.specs.declared.Given.{Given}
 use Rattle.book.specs.declared.Row.{Row}
-use Rattle.auction_engine.specs.Call.{Call, screen, clear, allocate, exercise, close, settle, skip, finish, expire}
+use Rattle.auction_engine.specs.declared.Call.{Call}
+use Rattle.auction_engine.specs.declared.Call.TheVariants.{Screen, Clear, Allocate, Exercise, Close, Settle, Skip, Finish, Expire}
 use Rattle.session_file.specs.declared.records.Mark.{Mark}
 use Rattle.session_file.specs.declared.records.Mark.TheVariants.{Unknown, SH, SI, OR, SC, CL, AL, RX, RC, ST, SK, FN, EX}
 use Rattle.octets.specs.Bytes.{word, bytes_at, time_at, flag_at}
@@ -59,12 +60,12 @@ fields_of SH rec = header (params_of rec) (given_of rec) None
 fields_of SI rec = header (params_of rec) (given_of rec) (Some (word 1 rec 94))
 fields_of OR rec = order (row_of rec)
 fields_of SC rec =
-    call (screen (time_at rec 2) (word 1 rec 10) (word 1 rec 11) (word 1 rec 12) (flag_at rec 13) (bytes_at 16 rec 14))
-fields_of CL rec = call (clear (time_at rec 2))
-fields_of AL rec = call (allocate (time_at rec 2) (word 1 rec 10))
-fields_of RX rec = call (exercise (time_at rec 2) (bytes_at 32 rec 10) (word 4 rec 42) (word 8 rec 46))
-fields_of RC rec = call (close (time_at rec 2) (bytes_at 32 rec 10))
-fields_of ST rec = call (settle (word 4 rec 2))
-fields_of SK rec = call (skip (time_at rec 2) (word 4 rec 10) (word 1 rec 14))
-fields_of FN rec = call (finish (time_at rec 2))
-fields_of EX rec = call (expire (time_at rec 2))
+    call (Screen (time_at rec 2) (word 1 rec 10) (word 1 rec 11) (word 1 rec 12) (flag_at rec 13) (bytes_at 16 rec 14))
+fields_of CL rec = call (Clear (time_at rec 2))
+fields_of AL rec = call (Allocate (time_at rec 2) (word 1 rec 10))
+fields_of RX rec = call (Exercise (time_at rec 2) (bytes_at 32 rec 10) (word 4 rec 42) (word 8 rec 46))
+fields_of RC rec = call (Close (time_at rec 2) (bytes_at 32 rec 10))
+fields_of ST rec = call (Settle (word 4 rec 2))
+fields_of SK rec = call (Skip (time_at rec 2) (word 4 rec 10) (word 1 rec 14))
+fields_of FN rec = call (Finish (time_at rec 2))
+fields_of EX rec = call (Expire (time_at rec 2))

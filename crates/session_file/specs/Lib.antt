@@ -5,8 +5,5 @@ pub mod Reads
 pub mod File
 pub mod Entry
 pub mod Claims
-pub mod Heads
-pub mod Calls
 pub mod Steps
 pub mod Parts
-pub mod PartSteps

@@ -1,17 +1,19 @@
 // What a record of a file does to the session, and what is said of it.
-ghost use Rattle.std.specs.Prelude.{◌≡◌, ◌+◌, ◌^◌, ◌<◌, false, if◌then◌else◌, [], ◌∷◌, ◌==◌};
-ghost use Rattle.session_file.specs.Marks.{header_kind};
-ghost use Rattle.session_file.specs.File.{unopened};
-ghost use Rattle.events.specs.Events.{event_pair};
-ghost use Rattle.events.specs.declared.Event.TheVariants.{Opened, Refused};
-ghost use Rattle.session_file.specs.Parts.{first_place};
-ghost use Rattle.session_file.specs.Steps.{place_after, early_refusal, step_of, said_all};
+ghost use Rattle.std.specs.Prelude.{◌≡◌, ◌<◌, ◌≤◌, ◌==◌, if◌then◌else◌, IfOk, OnErr, length};
+ghost use Rattle.refusals.specs.Number.{refusal_in};
+ghost use Rattle.octets.specs.Writing.{Writes};
+ghost use Rattle.listing.specs.Lines.{record_lines, max_record};
+ghost use Rattle.auction_engine.specs.Engine.{answer};
+ghost use Rattle.session_file.specs.File.{unopened, file_refusal, made, said_by, last_line};
+ghost use Rattle.session_file.specs.Parts.{state_at, first_place, after_record};
+ghost use Rattle.session_file.specs.Steps.{next_read, read_of, said_all, refused_by};
 
 use crate::fields::{self, Fields};
 use crate::records;
-use auction_engine::{Answer, Session, opening};
+use auction_engine::{Call, Session, opening};
 use book::{Given, Params};
-use events::{Event, EventPair, Events};
+use events::Event;
+use refusals::Refusal;
 
 // Where a file stands: the place of its next record, the kind of the record before, and what its header asks of escrows.
 #[derive(Clone, Copy, Drop)]
@@ -32,116 +34,132 @@ pub(crate) fn first_place() -> Place
     }
 }
 
-// The next place: after a record of these fields and that width, or at the end of the input where the record ends the file.
-pub(crate) fn place_after(place: Place, f: Fields, width: usize, ends: bool, end: usize) -> Place
-    requires { ends ≡ false → place.at + width < 2 ^ 64 }
-    ensures { result ≡ place_after place f width ends end }
-{
-    let mut next = place;
-    if ends {
-        next.at = end;
-        return next;
-    }
-    let by_record = f.cover;
-    let before = place.cover;
-    Place {
-        at: place.at + width,
-        stage: f.kind,
-        cover: asked(f.kind, by_record, before),
-    }
-}
-
-// What is asked of escrows after a record of that kind: a header says it anew.
-fn asked(kind: u8, by_record: Option<u8>, before: Option<u8>) -> Option<u8>
-    ensures { result ≡ (if kind == header_kind then by_record else before) }
-{
-    if kind == records::HEADER {
-        return by_record;
-    }
-    before
-}
-
 // The session before the header: nobody sees it.
 #[tactic(auto, unfolding(crate::specs::File::unopened))]
 pub(crate) fn unopened() -> Session
     ensures { result ≡ unopened }
 {
-    Session::new(fields::no_params(), fields::no_given())
+    Session::new(Params::default(), Given::default())
 }
 
-// What is to be done with a record.
-#[derive(Clone, Copy, Drop)]
-pub struct Step {
-    // The number that is said of it, or 0; then nothing is changed.
-    pub refusal: u8,
-    // It ends the file.
-    pub ends: bool,
-    // It opens the session.
-    pub opens: bool,
-}
-
-// By what reading refuses, the fields, and what refuses the change. A refused order ends the file; a refused call lets it go on.
-#[tactic(auto, unfolding(crate::specs::Steps::step_of))]
-pub(crate) fn step_of(refusal: u8, f: Fields, changing: u8) -> Step
-    ensures { result ≡ step_of refusal f changing }
+// The record at the place, where bytes are left: its lines at the start of out, what it makes of the session, and the place after it. A file refusal ends
+// the file. Where the lines are longer than out, 27, and only out is as it was.
+pub(crate) fn put_record(
+    input: &[u8],
+    place: &mut Place,
+    session: &mut Session,
+    number: u64,
+    out: &mut [u8],
+) -> Result<usize, Refusal>
+    requires { place.old.at < length input.now }
+    ensures place { place.new ≡ (after_record input.now place.old session.old).place }
+    ensures session { session.new ≡ (after_record input.now place.old session.old).session }
+    ensures lines { Writes (record_lines number (after_record input.now place.old session.old).said) result out.old out.new }
+    ensures room { max_record ≤ length out.old → refusal_in result ≡ 0 }
 {
-    let early = early_refusal(refusal, f);
-    if early != 0 {
-        return Step {
-            refusal: early,
-            ends: true,
-            opens: false,
-        };
-    }
-    if f.kind == records::HEADER {
-        return Step {
-            refusal: 0,
-            ends: false,
-            opens: true,
-        };
-    }
-    Step {
-        refusal: changing,
-        ends: (f.kind == records::ORDER) & (changing != 0),
-        opens: false,
+    match put_read(input, place, session, number, out) {
+        Ok(written) => written,
+        Err(refusal) => {
+            place.at = input.len();
+            put_refused(out, number, refusal)
+        }
     }
 }
 
-// What ends the file before the session is looked at: the reading's refusal, the header's row, or 4 of a call's own arguments.
-#[tactic(auto, unfolding(crate::specs::Steps::early_refusal, laws::specs::Checks::first_of))]
-fn early_refusal(refusal: u8, f: Fields) -> u8
-    ensures { result ≡ early_refusal refusal f }
+// The same, but what ends the file is answered, and then nothing is changed.
+#[tactic(auto, using(auction_engine::proofs::Steps::numbered), unfolding(crate::specs::File::file_refusal))]
+fn put_read(
+    input: &[u8],
+    place: &mut Place,
+    session: &mut Session,
+    number: u64,
+    out: &mut [u8],
+) -> Result<Result<usize, Refusal>, Refusal>
+    requires { place.old.at < length input.now }
+    ensures refusal { refusal_in result ≡ file_refusal (state_at place.old session.old) (next_read input.now place.old) }
+    ensures place { IfOk result (λ _. place.new ≡ (after_record input.now place.old session.old).place) }
+    ensures session { session.new ≡ (after_record input.now place.old session.old).session }
+    ensures lines { IfOk result (λ written. Writes (record_lines number (after_record input.now place.old session.old).said) written out.old out.new) }
+    ensures room { IfOk result (λ written. max_record ≤ length out.old → refusal_in written ≡ 0) }
+    ensures kept { OnErr result ((place.new ≡ place.old) × (out.new ≡ out.old)) }
 {
-    if refusal != 0 {
-        return refusal;
+    let r = fields::record_at(input, place)?;
+    let written = put_fields(place, session, &r.fields, number, out)?;
+    place.at += r.width;
+    place.stage = r.kind;
+    if let Fields::Header { cover, .. } = r.fields {
+        place.cover = cover;
     }
-    match f.kind {
-        1 => refusals::number_of(opening::header_refusal(&f.params, &f.given, f.cover)),
-        3 => refusals::number_of(auction_engine::arguments_refusal(f.call)),
-        _ => 0,
+    Ok(written)
+}
+
+// What a record makes of the session, and its lines. A refused header or order ends the file, and so does a call with an argument outside its values.
+#[tactic(auto, using(crate::proofs::Stepping::said_answer), unfolding(crate::specs::File::file_refusal, crate::specs::File::made, crate::specs::File::said_by))]
+fn put_fields(
+    place: &Place,
+    session: &mut Session,
+    fields: &Fields,
+    number: u64,
+    out: &mut [u8],
+) -> Result<Result<usize, Refusal>, Refusal>
+    ensures refusal { refusal_in result ≡ file_refusal (state_at place.now session.old) (read_of fields.now) }
+    ensures session { session.new ≡ (if file_refusal (state_at place.now session.old) (read_of fields.now) == 0 then (made (state_at place.now session.old) (read_of fields.now)).session else session.old) }
+    ensures lines { IfOk result (λ written. Writes (record_lines number (said_by (state_at place.now session.old) (read_of fields.now))) written out.old out.new) }
+    ensures room { IfOk result (λ written. max_record ≤ length out.old → refusal_in written ≡ 0) }
+    ensures kept { OnErr result (out.new ≡ out.old) }
+{
+    match fields {
+        Fields::Header {
+            params,
+            given,
+            cover,
+        } => {
+            opening::header_refusal(params, given, *cover)?;
+            *session = Session::new(*params, *given);
+            Ok(listing::put_events(out, number, &[Event::Opened]))
+        }
+        Fields::Order(row) => {
+            let order = session.order_count as u64;
+            opening::add_order(session, place.cover, row)?;
+            Ok(listing::put_events(out, number, &[Event::Ordered(order)]))
+        }
+        Fields::Call(call) => {
+            call.arguments_refusal()?;
+            Ok(put_call(session, call, number, out))
+        }
     }
 }
 
-// What is said of a refusal, and of a header.
-pub(crate) fn refused(number: u8) -> EventPair
-    ensures { result ≡ event_pair (Refused number ∷ []) }
+// A call made, and its events; of a refused one its refusal.
+#[tactic(auto, unfolding(auction_engine::specs::Engine::answer))]
+fn put_call(
+    session: &mut Session,
+    call: &Call,
+    number: u64,
+    out: &mut [u8],
+) -> Result<usize, Refusal>
+    ensures session { session.new ≡ (answer session.old call.now).session }
+    ensures lines { Writes (record_lines number (said_all (answer session.old call.now))) result out.old out.new }
+    ensures room { max_record ≤ length out.old → refusal_in result ≡ 0 }
 {
-    EventPair::one(Event::Refused(number))
-}
-
-pub(crate) fn opened() -> EventPair
-    ensures { result ≡ event_pair (Opened ∷ []) }
-{
-    EventPair::one(Event::Opened)
-}
-
-// What is said of an answer: the refusal, or else the events.
-pub(crate) fn said_all(a: Answer) -> Events
-    ensures { result ≡ said_all a }
-{
-    if a.refusal != 0 {
-        let none = Events::none();
-        return none.push(Event::Refused(a.refusal));
+    match session.make(call) {
+        Ok(said) => listing::put_events(out, number, said.as_slice()),
+        Err(refusal) => put_refused(out, number, refusal),
     }
-    a.events
+}
+
+fn put_refused(out: &mut [u8], number: u64, refusal: Refusal) -> Result<usize, Refusal>
+    ensures lines { Writes (record_lines number (refused_by refusal)) result out.old out.new }
+    ensures room { max_record ≤ length out.old → refusal_in result ≡ 0 }
+{
+    listing::put_events(out, number, &[Event::Refused(refusal.number())])
+}
+
+// The last line.
+pub(crate) fn put_last(place: &Place, session: &Session, out: &mut [u8]) -> Result<usize, Refusal>
+    ensures line { Writes (last_line (state_at place.now session.now)) result out.old out.new }
+    ensures room { max_record ≤ length out.old → refusal_in result ≡ 0 }
+{
+    let accepted = place.stage != records::NO_KIND;
+    listing::put_end(out, accepted, session.phase, session.skipped_fills)
 }

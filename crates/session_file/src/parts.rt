@@ -1,14 +1,13 @@
 // A listing part by part, for who has no room for a whole one: a record's lines, or the last line.
-ghost use Rattle.std.specs.Prelude.{◌≡◌, ◌<◌, false, length};
-ghost use Rattle.session_file.specs.Parts.{begun, PartPut};
-ghost use Rattle.session_file.specs.PartSteps.{whole_refused, NextOf, RecordNext, handled_by};
+ghost use Rattle.std.specs.Prelude.{◌≡◌, ◌≤◌, length};
+ghost use Rattle.refusals.specs.Number.{refusal_in};
+ghost use Rattle.octets.specs.Writing.{Writes};
+ghost use Rattle.listing.specs.Lines.{max_record};
+ghost use Rattle.session_file.specs.Parts.{begun, part_at, cursor_after, PartPut};
 
-use crate::fields::Fields;
-use crate::file::{Place, Step};
-use crate::{fields, file, records};
+use crate::file::{self, Place};
 use auction_engine::Session;
-use auction_engine::changes::Change;
-use events::{Event, Events};
+use events::Event;
 use refusals::Refusal;
 
 // Where a listing stands: the file's place and session, and the number of the next record.
@@ -27,14 +26,12 @@ pub struct Cursor {
 pub fn begin(too_long: bool) -> Cursor
     ensures { result ≡ begun too_long }
 {
-    let place = file::first_place();
-    let session = file::unopened();
     Cursor {
-        place,
+        place: file::first_place(),
         number: 0,
         too_long,
         ended: false,
-        session,
+        session: file::unopened(),
     }
 }
 
@@ -49,128 +46,33 @@ pub struct Part {
 pub fn put_next(input: &[u8], s: Cursor, out: &mut [u8]) -> Part
     ensures { PartPut input.now s result out.old out.new }
 {
-    if s.ended {
-        return Part {
-            written: Ok(0),
-            cursor: s,
-        };
-    }
-    let next = next_of(input, s);
-    let written = if next.cursor.ended {
-        listing::put_end(
-            out,
-            s.place.stage != records::NO_KIND,
-            s.session.phase,
-            s.session.skipped_fills,
-        )
-    } else {
-        listing::put_events(out, s.number, next.said)
-    };
-    if written.is_err() {
-        return Part { written, cursor: s };
-    }
-    Part {
-        written,
-        cursor: next.cursor,
-    }
+    let mut next = s;
+    let written = put_part(input, &mut next, out);
+    let cursor = if written.is_ok() { next } else { s };
+    Part { written, cursor }
 }
 
-// What is said next, if anything but the last line, and where the listing then stands.
-#[derive(Clone, Copy, Drop)]
-struct Next {
-    said: Events,
-    cursor: Cursor,
-}
-
-fn next_of(input: &[u8], s: Cursor) -> Next
-    requires { s.ended ≡ false }
-    ensures { NextOf input.now s result }
+// The same, where the listing goes on even where the part is longer than out.
+fn put_part(input: &[u8], s: &mut Cursor, out: &mut [u8]) -> Result<usize, Refusal>
+    ensures lines { Writes (part_at input.now s.old) result out.old out.new }
+    ensures cursor { s.new ≡ cursor_after input.now s.old }
+    ensures room { max_record ≤ length out.old → refusal_in result ≡ 0 }
 {
+    if s.ended {
+        return Ok(0);
+    }
+    let number = s.number;
     if s.too_long {
-        return whole_refused(s, input.len());
+        s.number = number.wrapping_add(1);
+        s.too_long = false;
+        s.place.at = input.len();
+        let refused = Event::Refused(Refusal::InputTooLong.number());
+        return listing::put_events(out, number, &[refused]);
     }
     if s.place.at < input.len() {
-        return record_next(input, s);
+        s.number = number.wrapping_add(1);
+        return file::put_record(input, &mut s.place, &mut s.session, number, out);
     }
-    let mut cursor = s;
-    cursor.ended = true;
-    let said = Events::none();
-    Next { said, cursor }
-}
-
-// 26 is said of the whole input, and nothing of it is read.
-fn whole_refused(s: Cursor, end: usize) -> Next
-    ensures { result ≡ whole_refused s end }
-{
-    let none = Events::none();
-    let said = none.push(Event::Refused(Refusal::InputTooLong.number()));
-    let mut cursor = s;
-    cursor.place.at = end;
-    cursor.number = std::num::wrapping_add_u64(s.number, 1);
-    cursor.too_long = false;
-    Next { said, cursor }
-}
-
-// The next record.
-fn record_next(input: &[u8], s: Cursor) -> Next
-    requires { s.place.at < length input.now }
-    ensures { RecordNext input.now s result }
-{
-    let place = s.place;
-    let session = s.session;
-    let r = fields::record_at(input, place);
-    let f = r.fields;
-    let change = session.change(f.kind == records::ORDER, place.cover, &f.row, f.call);
-    let step = file::step_of(r.refusal, f, change.refusal);
-    let handled = handle(session, step, change, f);
-    let said = handled.said;
-    let after = handled.session;
-    let cursor = Cursor {
-        place: file::place_after(place, f, r.width, step.ends, input.len()),
-        number: std::num::wrapping_add_u64(s.number, 1),
-        too_long: s.too_long,
-        ended: s.ended,
-        session: after,
-    };
-    Next { said, cursor }
-}
-
-// The session after a record, and what is said of it.
-#[derive(Clone, Copy, Drop)]
-struct Handled {
-    session: Session,
-    said: Events,
-}
-
-// By what is to be done with the record.
-fn handle(session: Session, step: Step, change: Change, f: Fields) -> Handled
-    ensures { result ≡ handled_by session step change f }
-{
-    if step.refusal != 0 {
-        let pair = file::refused(step.refusal);
-        return Handled {
-            session,
-            said: pair.all(),
-        };
-    }
-    if step.opens {
-        let pair = file::opened();
-        return Handled {
-            session: Session::new(f.params, f.given),
-            said: pair.all(),
-        };
-    }
-    if change.undecided {
-        let a = session.apply(f.call);
-        let after = a.session;
-        return Handled {
-            session: after,
-            said: file::said_all(a),
-        };
-    }
-    let pair = change.events;
-    Handled {
-        session: session.changed(change),
-        said: pair.all(),
-    }
+    s.ended = true;
+    file::put_last(&s.place, &s.session, out)
 }

@@ -1,17 +1,16 @@
-// The records of a session file: their marks and shapes, and the head of a record, which says whether it may be read.
-ghost use Rattle.std.specs.Prelude.{◌≡◌, ◌<◌, take, drop, nat_le};
+// The records of a session file: their marks, and whether what stands next may be read.
+ghost use Rattle.std.specs.Prelude.{◌≡◌, ◌≤◌, IfOk, OnOk, take, drop, nat_le, length};
+ghost use Rattle.refusals.specs.Number.{refusal_in};
 ghost use Rattle.laws.specs.Checks.{unless};
 ghost use Rattle.octets.specs.Bytes.{word};
 ghost use Rattle.session_file.specs.Marks.{mark_of, shape_of, in_place};
-ghost use Rattle.session_file.specs.Reads.{flags_refusal};
-ghost use Rattle.session_file.specs.Heads.{shape_in, flags_in, head_at};
+ghost use Rattle.session_file.specs.Reads.{flags_refusal, mark_at, shape_at, reading_refusal};
 
-use laws::checks::{first_of, unless};
 use octets::reading;
 use refusals::Refusal;
 
 // What a mark says.
-#[derive(Clone, Copy, Drop)]
+#[derive(Clone, Copy, Debug, PartialEq, Eq)]
 pub enum Mark {
     Unknown,
     SH,
@@ -58,47 +57,50 @@ fn mark_of(m: u16) -> Mark
     }
 }
 
-// What a mark says of its record: its kind, its bytes in all, and the places of at most two flags.
-#[derive(Clone, Copy, Drop)]
-pub struct Shape {
-    pub kind: u8,
-    pub width: usize,
-    pub flags: usize,
-    pub first: usize,
-    pub second: usize,
-}
+impl Mark {
+    // The kind of its record, and the record's bytes in all.
+    #[tactic(auto, unfolding(crate::specs::Marks::shape_of))]
+    pub fn shape(self) -> (u8, usize)
+        ensures kind { result.0 ≡ (shape_of self).kind }
+        ensures width { result.1 ≡ (shape_of self).width }
+    {
+        match self {
+            Mark::Unknown => (NO_KIND, 2),
+            Mark::SH => (HEADER, 94),
+            Mark::SI => (HEADER, 95),
+            Mark::OR => (ORDER, 60),
+            Mark::SC => (CALL, 30),
+            Mark::CL | Mark::FN | Mark::EX => (CALL, 10),
+            Mark::AL => (CALL, 11),
+            Mark::RX => (CALL, 54),
+            Mark::RC => (CALL, 42),
+            Mark::ST => (CALL, 6),
+            Mark::SK => (CALL, 15),
+        }
+    }
 
-// The one table of the marks.
-fn shape_of(m: Mark) -> Shape
-    ensures { result ≡ shape_in (shape_of m) }
-{
-    match m {
-        Mark::Unknown => shaped(NO_KIND, 2, 0, 0, 0),
-        Mark::SH => shaped(HEADER, 94, 2, 35, 68),
-        Mark::SI => shaped(HEADER, 95, 2, 35, 68),
-        Mark::OR => shaped(ORDER, 60, 1, 43, 0),
-        Mark::SC => shaped(CALL, 30, 1, 13, 0),
-        Mark::CL => shaped(CALL, 10, 0, 0, 0),
-        Mark::AL => shaped(CALL, 11, 0, 0, 0),
-        Mark::RX => shaped(CALL, 54, 0, 0, 0),
-        Mark::RC => shaped(CALL, 42, 0, 0, 0),
-        Mark::ST => shaped(CALL, 6, 0, 0, 0),
-        Mark::SK => shaped(CALL, 15, 0, 0, 0),
-        Mark::FN => shaped(CALL, 10, 0, 0, 0),
-        Mark::EX => shaped(CALL, 10, 0, 0, 0),
+    // 4: one of the record's flags is not 0 or 1.
+    #[tactic(auto, unfolding(laws::specs::Checks::unless, laws::specs::Checks::first_of, crate::specs::Marks::shape_of, crate::specs::Reads::flags_refusal))]
+    fn flags_refusal(self, rec: &[u8]) -> Result<(), Refusal>
+        ensures { refusal_in result ≡ flags_refusal rec.now (shape_of self).flags }
+    {
+        match self {
+            Mark::SH | Mark::SI => {
+                flag_refusal(rec, 35)?;
+                flag_refusal(rec, 68)
+            }
+            Mark::OR => flag_refusal(rec, 43),
+            Mark::SC => flag_refusal(rec, 13),
+            _ => Ok(()),
+        }
     }
 }
 
-fn shaped(kind: u8, width: usize, flags: usize, first: usize, second: usize) -> Shape
-    ensures { result ≡ record { kind = kind; width = width; flags = flags; first = first; second = second } }
+#[tactic(auto, unfolding(laws::specs::Checks::unless))]
+fn flag_refusal(rec: &[u8], at: usize) -> Result<(), Refusal>
+    ensures { refusal_in result ≡ unless (nat_le (word 1 rec.now at) 1) 4 }
 {
-    Shape {
-        kind,
-        width,
-        flags,
-        first,
-        second,
-    }
+    Refusal::BadField.unless(reading::u8_at(rec, at) <= 1)
 }
 
 // One header first, then orders, then calls.
@@ -112,76 +114,19 @@ fn in_place(before: u8, kind: u8) -> bool
     (0 < before) & (before <= kind)
 }
 
-// The head of a record: what refuses it, its mark, its kind and its width.
-#[derive(Clone, Copy, Drop)]
-pub struct Head {
-    pub refusal: u8,
-    pub mark: Mark,
-    pub kind: u8,
-    pub width: usize,
-}
-
-// The head of what is left of a file: 1 no whole mark; 2 unknown; 3 out of order; 1 cut; 4 a flag outside its values.
-pub fn head_of(rest: &[u8], before: u8) -> Head
-    ensures { result ≡ head_at before rest.now }
+// The mark of what is left of a file, where its record may be read: 1 no whole mark; 2 unknown; 3 out of order; 1 cut; 4 a flag outside its values.
+#[tactic(auto, unfolding(laws::specs::Checks::unless, laws::specs::Checks::first_of, crate::specs::Reads::reading_refusal))]
+pub(crate) fn mark_next(rest: &[u8], before: u8) -> Result<Mark, Refusal>
+    ensures refusal { refusal_in result ≡ reading_refusal before rest.now }
+    ensures mark { IfOk result (λ m. m ≡ mark_at rest.now) }
+    ensures whole { OnOk result ((shape_at rest.now).width ≤ length rest.now) }
 {
+    Refusal::NoRecord.unless(2 <= rest.len())?;
     let mark = mark_of(reading::u16_at(rest, 0));
-    let s = shape_of(mark);
-    let width = s.width;
-    let whole = unless(2 <= rest.len(), Refusal::NoRecord);
-    let known = unless(0 < s.kind, Refusal::UnknownMark);
-    let place = unless(in_place(before, s.kind), Refusal::OutOfOrder);
-    let body = unless(width <= rest.len(), Refusal::NoRecord);
-    let flags = flags_refusal(own_bytes(rest, width), s);
-    let refusal = first_of(
-        whole,
-        first_of(known, first_of(place, first_of(body, flags))),
-    );
-    Head {
-        refusal,
-        mark,
-        kind: s.kind,
-        width,
-    }
-}
-
-// What is left of a file, from a place on.
-pub fn rest_of(input: &[u8], at: usize) -> &[u8]
-    ensures { result.now ≡ drop at input.now }
-{
-    if at <= input.len() {
-        return &input[at..];
-    }
-    let end = input.len();
-    &input[end..]
-}
-
-// A record's own bytes, of what is left of a file.
-pub fn own_bytes(rest: &[u8], width: usize) -> &[u8]
-    ensures { result.now ≡ take width rest.now }
-{
-    if width <= rest.len() {
-        return &rest[..width];
-    }
-    rest
-}
-
-// Each flag of the shape is 0 or 1, else 4.
-fn flags_refusal(rec: &[u8], s: Shape) -> u8
-    ensures { result ≡ flags_refusal rec.now (flags_in s) }
-{
-    if s.flags == 0 {
-        return 0;
-    }
-    let first = flag_refusal(rec, s.first);
-    if s.flags == 1 {
-        return first;
-    }
-    first_of(first, flag_refusal(rec, s.second))
-}
-
-fn flag_refusal(rec: &[u8], at: usize) -> u8
-    ensures { result ≡ unless (nat_le (word 1 rec.now at) 1) 4 }
-{
-    unless(reading::u8_at(rec, at) <= 1, Refusal::BadField)
+    let (kind, width) = mark.shape();
+    Refusal::UnknownMark.unless(0 < kind)?;
+    Refusal::OutOfOrder.unless(in_place(before, kind))?;
+    Refusal::NoRecord.unless(width <= rest.len())?;
+    mark.flags_refusal(&rest[..width])?;
+    Ok(mark)
 }

@@ -32,15 +32,18 @@ fn next(rt: &impl Print, reader: &mut impl Read) -> bool {
 
 fn run(rt: &impl Print, block: &[u8]) {
     let session = image::session_in(block);
-    let call = image::call_in(block);
-    let answer = session.apply(call);
-    text::say(rt, answer.refusal);
+    let answer = session.apply(image::call_in(block));
+    let refusal = match &answer.said {
+        Ok(_) => 0,
+        Err(refusal) => refusal.number(),
+    };
+    text::say(rt, refusal);
     text::say(rt, "|");
-    if answer.refusal == 0 {
-        text::put_events(rt, &answer.events);
+    if let Ok(events) = &answer.said {
+        text::put_events(rt, events.as_slice());
     }
     text::say(rt, "|");
-    if text::is_shown(answer.refusal) {
+    if text::is_shown(refusal) {
         text::put_session(rt, &answer.session);
     }
     text::say(rt, "\n");

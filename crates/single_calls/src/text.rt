@@ -4,7 +4,7 @@ ghost use Rattle.std.specs.Prelude.{◌≡◌, not, ◌||◌, ◌==◌};
 
 use auction_engine::Session;
 use book::{Fill, Order};
-use events::{Event, Events, Print};
+use events::{Event, Print};
 use refusals::Refusal;
 use std::fmt::Display;
 use std::io::Print as Output;
@@ -42,84 +42,67 @@ pub fn is_shown(refusal: u8) -> bool
 }
 
 // The events of an accepted call, or `none`.
-pub fn put_events(rt: &impl Output, events: &Events) {
-    if events.count == 0 {
+pub fn put_events(rt: &impl Output, events: &[Event]) {
+    if events.is_empty() {
         say(rt, "none");
     }
-    for (i, line) in events.lines.iter().take(events.count).enumerate() {
+    for (i, event) in events.iter().enumerate() {
         if 0 < i {
             say(rt, ";");
         }
-        put_event(rt, line.event);
+        put_event(rt, event);
     }
 }
 
-fn put_event(rt: &impl Output, e: Event) {
-    match e {
-        Event::Nothing => say(rt, "none"),
-        Event::OrderScreened {
-            order: i,
-            exclusion: e,
-        } => put_two(rt, "screen", i as u64, e as u64),
+fn put_event(rt: &impl Output, event: &Event) {
+    match *event {
+        Event::OrderScreened { order, exclusion } => {
+            put(rt, "screen", &[order.into(), exclusion.into()])
+        }
         Event::Cleared {
             price,
             volume,
             reserve,
             reference,
-        } => { put_four(rt, "clear", price, volume, reserve, reference) }
-        Event::SessionFailed(reason) => put_one(rt, "failed", reason as u64),
+        } => put(rt, "clear", &[price, volume, reserve, reference]),
+        Event::SessionFailed(reason) => put(rt, "failed", &[reason.into()]),
         Event::FillAllocated {
             fill,
             buy,
             sell,
             qty,
-        } => { put_four(rt, "fill", fill as u64, buy as u64, sell as u64, qty) }
+        } => put(rt, "fill", &[fill.into(), buy.into(), sell.into(), qty]),
         Event::RofrExercised {
             fill,
             new,
             qty,
             price,
-        } => { put_four(rt, "rofr", fill as u64, new as u64, qty, price) }
-        Event::RofrClosed(qty) => put_one(rt, "close", qty),
-        Event::FillSettled { fill, qty, price } => put_three(rt, "settle", fill as u64, qty, price),
-        Event::FillSkipped {
-            fill: f,
-            qty,
-            reason: r,
-        } => put_three(rt, "skip", f as u64, qty, r as u64),
-        Event::ClearingPrint(p) => put_print(rt, p),
-        Event::PhaseChanged { from, to } => put_two(rt, "phase", from as u64, to as u64),
-        Event::Opened => say(rt, "open"),
-        Event::Ordered(order) => put_one(rt, "order", order),
-        Event::Refused(number) => put_one(rt, "refused", number as u64),
+        } => put(rt, "rofr", &[fill.into(), new.into(), qty, price]),
+        Event::RofrClosed(qty) => put(rt, "close", &[qty]),
+        Event::FillSettled { fill, qty, price } => put(rt, "settle", &[fill.into(), qty, price]),
+        Event::FillSkipped { fill, qty, reason } => {
+            put(rt, "skip", &[fill.into(), qty, reason.into()])
+        }
+        Event::ClearingPrint(print) => put_print(rt, &print),
+        Event::PhaseChanged { from, to } => put(rt, "phase", &[from.into(), to.into()]),
+        Event::Opened => put(rt, "open", &[]),
+        Event::Ordered(order) => put(rt, "order", &[order]),
+        Event::Refused(number) => put(rt, "refused", &[number.into()]),
     }
 }
 
-fn put_print(rt: &impl Output, p: Print) {
-    put_three(rt, "print", p.price, p.volume, p.n_investor_ids);
+fn put_print(rt: &impl Output, p: &Print) {
+    put(rt, "print", &[p.price, p.volume, p.n_investor_ids]);
     flag(rt, p.forced_sale);
-    field(rt, p.policy as u64);
+    field(rt, p.policy.into());
     flag(rt, p.partial);
 }
 
-fn put_one(rt: &impl Output, word: &str, a: u64) {
+fn put(rt: &impl Output, word: &str, figures: &[u64]) {
     say(rt, word);
-    field(rt, a);
-}
-
-fn put_two(rt: &impl Output, word: &str, a: u64, b: u64) {
-    put_one(rt, word, a);
-    field(rt, b);
-}
-
-fn put_three(rt: &impl Output, word: &str, a: u64, b: u64, c: u64) {
-    put_two(rt, word, a, b);
-    field(rt, c);
-}
-
-fn put_four(rt: &impl Output, word: &str, a: u64, b: u64, c: u64, d: u64) {
-    put_three(rt, word, a, b, c);
-    field(rt, d);
+    for &figure in figures {
+        field(rt, figure);
+    }
 }
 
 pub fn put_session(rt: &impl Output, s: &Session) {

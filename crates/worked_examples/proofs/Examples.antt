@@ -4,7 +4,7 @@ use Rattle.laws.specs.Sums.{sum_below, sum_of}
 use Rattle.laws.specs.Lists.{table, keep}
 use Rattle.laws.specs.Sort.{insert, sort, dedup}
 use Rattle.laws.specs.Lex.{lex}
-use Rattle.laws.specs.Checks.{unless, ◌then◌, first_of}
+use Rattle.laws.specs.Checks.{unless, first_of}
 use Rattle.credit_math.specs.Price.{buy, sell, executed, imbalance, executes, better, candidates, clear_price, price_refusal, find_uniform_clear_price}
 use Rattle.credit_math.specs.ProRata.{share, shares, residue, precedes, turns, hand_out, lots, pro_rata_refusal, allocate_pro_rata}
 use Rattle.disclosure.specs.Disclosure.{width, banded, band_answer}

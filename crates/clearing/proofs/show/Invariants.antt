@@ -1,5 +1,5 @@
 -- `clearing::show` ends: each part leaves fewer.
-use Rattle.session_file.specs.PartSteps.{parts_left}
+use Rattle.session_file.proofs.PartByPart.{parts_left}
 use Rattle.clearing.proofs.show.Given as goal
 
 abbrev pub decreases-loop-s : goal.decreases-loop-s

@@ -1,22 +1,31 @@
--- `listing::put_lines` meets its contract, event by event.
-use Rattle.std.proofs.Common.{refl, ◌∙◌, arith, length-take, length-drop}
-use Rattle.octets.proofs.Spliced.{length_puts, puts_none, puts_part}
-use Rattle.listing.proofs.Parts.{event_short, event_line_lem}
-use Rattle.listing.proofs.Lines.{lines_none, puts_event}
+-- `put_lines` meets its contract, event by event.
+use Rattle.std.proofs.Common.{List, ℕ, length, zero-add, arith, length-take, length-drop, le-leb}
+use Rattle.std.specs.Prelude.{Ok}
+use Rattle.std.proofs.lemmas.Grind.{common_steps}
+use Rattle.octets.specs.Puts.{Puts}
+use Rattle.octets.specs.Writing.{written, after, Writes}
+use Rattle.octets.proofs.Answers.{answer_small}
+use Rattle.octets.proofs.Spliced.{puts_part}
+use Rattle.listing.proofs.Records.{lines_within, puts_event}
 use Rattle.listing.proofs.put_lines.Goals as goal
 
-pub loop-i-init : goal.loop-i-init
-loop-i-init c = (omega arith, refl, omega arith, rw (lines_none c.args.number c.args.lines) (puts_none _ _))
+-- where a length is answered, the text is written
+writes_puts : {text e e' : List ℕ} {n : ℕ} → Writes text (Ok n) e e' → Puts text 0 n e e'
+unfolding after
+writes_puts {text} {e} w =
+    let a = answer_small w in
+    let fits = le-leb (length text) (length e) (omega arith) in
+    record { place = rw zero-add a.0; bytes = rw fits at w.bytes }
 
-pub put_line-k-requires : goal.put_line-k-requires
-put_line-k-requires c = rw c.parts_of.ensures (event_short _, simp (length-take, length-drop) (omega arith))
+pub returns-in_err-k : goal.returns-in_err-k
+unfolding written
+returns-in_err-k c =
+    let within = lines_within c.args.number c.loop-event.event-index c.args.events.now c.loop-event-test.true in
+    grind (arith, common_steps)
 
-pub loop-i-preserved : goal.loop-i-preserved
-loop-i-preserved c =
-    let l = c.loop-i in
-    let v = puts_part l.k l.out (rw (c.parts_of.ensures, event_line_lem) at c.put_line-k.ensures.0) in (
-      omega arith,
-      length_puts v (omega arith) ∙ l.invariant.1,
-      omega arith,
-      puts_event c.args.number l.i c.args.lines _ l.invariant.3 v (omega arith),
-    )
+pub loop-event-preserved : goal.loop-event-preserved
+loop-event-preserved c =
+    let l = c.loop-event in
+    let w = rw c.in_ok-k.was at c.put_said.ensures in
+    let small = simp (length-take, length-drop) at (answer_small w).1 in
+    (omega (arith, small), puts_event c.args.number l.event-index c.args.events.now l.invariant.1 (puts_part l.k l.out (writes_puts w)) (omega arith))

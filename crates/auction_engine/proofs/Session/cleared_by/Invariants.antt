@@ -4,4 +4,4 @@ use Rattle.auction_engine.proofs.Lots.{lotted}
 use Rattle.auction_engine.proofs.Session.cleared_by.Given as goal
 
 abbrev pub invariant-loop-i : goal.invariant-loop-i
-invariant-loop-i l = l.session ≡ lotted l.fn.self l.cross.lots l.i
+invariant-loop-i l = l.self ≡ lotted l.initial.self l.cross.lots l.i

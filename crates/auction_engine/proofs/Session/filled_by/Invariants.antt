@@ -4,4 +4,4 @@ use Rattle.auction_engine.proofs.FillLoop.{Going}
 use Rattle.auction_engine.proofs.Session.filled_by.Given as goal
 
 abbrev pub invariant-loop : goal.invariant-loop
-invariant-loop l = Going l.fn.self l.n (l.n - l.counter) l.session l.events
+invariant-loop l = Going l.initial.self l.n (l.n - l.counter) l.self l.events

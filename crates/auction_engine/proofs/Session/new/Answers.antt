@@ -2,7 +2,7 @@
 use Rattle.std.proofs.Common.{◌≡◌}
 use Rattle.book.specs.Book.{empty_order, empty_fill}
 use Rattle.auction_engine.specs.Session.{fresh}
-use Rattle.auction_engine.proofs.Places.{zeros}
+use Rattle.auction_engine.proofs.Zeros.{zeros}
 use Rattle.auction_engine.proofs.Session.new.Goals as goal
 
 pub returns : goal.returns

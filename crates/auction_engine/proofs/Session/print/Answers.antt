@@ -3,7 +3,8 @@ use Rattle.std.proofs.Common.{rules, arith, ◌≡◌, ◌≤◌, length, sym, a
 use Rattle.refusals.specs.Number.{refusal_in}
 use Rattle.book.specs.Limits.{max_fills}
 use Rattle.auction_engine.proofs.Checks.{checked_within}
-use Rattle.auction_engine.proofs.Passing.{test_held, not_zero}
+use Rattle.auction_engine.proofs.Passing.{test_held}
+use Rattle.auction_engine.proofs.Steps.{numbered}
 use Rattle.auction_engine.proofs.Prints.{settled_every, moved_take, volume_decides, wide_refused, narrow_passes, discloses, print_as}
 use Rattle.auction_engine.proofs.Session.print.Goals as goal
 
@@ -22,7 +23,7 @@ pub returns-in_err-shown-clause-refusal : goal.returns-in_err-shown-clause-refus
 returns-in_err-shown-clause-refusal c =
     let s = c.args.self.now in
     let w = checked_within s (sym c.checked.ensures.refusal ∙ ap refusal_in c.in_ok-checked.was) in
-    absurd (omega (arith, ap (λ d. d.refusal) c.in_err-shown.ensures ∙ discloses s w c.in_ok-moved.moved, not_zero c.in_err-shown.field-0.0))
+    absurd (omega (arith, ap (λ d. d.refusal) c.in_err-shown.ensures ∙ discloses s w c.in_ok-moved.moved, numbered c.in_err-shown.field-0.0))
 
 pub returns-clause-refusal : goal.returns-clause-refusal
 returns-clause-refusal c =

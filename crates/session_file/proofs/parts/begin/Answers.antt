@@ -1,7 +1,7 @@
--- `session_file::parts::begin` meets its contract, from those of the first place and the unopened session.
+-- `session_file::parts::begin` meets its contract.
 use Rattle.session_file.specs.Parts.{begun}
 use Rattle.session_file.proofs.parts.begin.Goals as goal
 
 pub returns : goal.returns
 unfolding begun
-returns c = rw (c.unopened-session.ensures, c.first_place-place.ensures)
+returns c = rw (c.first_place.ensures, c.unopened.ensures)

@@ -1,7 +1,6 @@
 -- `Wide::div_rem` meets its contract. By 0 and of a smaller number the quotient is 0; a divisor of at least half of all numbers goes once; the rest is the long division.
 use Rattle.std.proofs.Common.{ℕ, ◌*◌, ◌≤◌, ap, arith}
 use Rattle.std.proofs.lemmas.Grind.{common_steps}
-use Rattle.wide.specs.Value.{modulus}
 use Rattle.wide.proofs.Long.{of_parts}
 use Rattle.wide.proofs.Wide.div_rem.Goals as goal
 use Rattle.wide.proofs.Wide.div_rem.Goals.{then-is_zero-via-then-is_zero, then-is_zero-via-else-is_zero+then-lt}
@@ -17,7 +16,3 @@ pub returns-then-d-ge9223372036854775808-clause-division : goal.returns-then-d-g
 returns-then-d-ge9223372036854775808-clause-division c =
     let goes : c.args.d ≤ c.args.self = grind (arith, common_steps) in
     of_parts _ _ _ (omega arith) (omega (arith, ap (λ (x : ℕ). x * c.args.d) c.from-then-d-ge9223372036854775808.ensures))
-
-pub long_division-requires : goal.long_division-requires
-unfolding modulus
-long_division-requires c = (grind (arith, common_steps), omega arith)
