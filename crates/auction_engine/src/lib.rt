@@ -16,6 +16,7 @@ use book::{Fill, Given, Order, Params};
 use events::{CallEvents, Event, FewEvents};
 use refusals::Refusal;
 
+mod calls;
 pub mod clearing;
 mod first_checks;
 pub mod matching;
@@ -233,58 +234,6 @@ pub struct CallRecord {
     pub reason: u8,
 }
 
-// A kind above 8 is an argument outside its values.
-impl TryFrom<CallRecord> for Call {
-    type Error = Refusal;
-
-    ghost try_from_gives = { RecordedCall };
-
-    #[tactic(auto, using(crate::proofs::Steps::steps), unfolding(crate::specs::Engine::call_of))]
-    fn try_from(call: CallRecord) -> Result<Call, Refusal> {
-        let CallRecord {
-            kind,
-            now,
-            order,
-            side,
-            verdict,
-            has_id,
-            id,
-            max_fills,
-            wallet,
-            fill,
-            qty,
-            reason,
-        } = call;
-        Ok(match kind {
-            SCREEN => Call::Screen {
-                now,
-                order,
-                side,
-                verdict,
-                has_id,
-                id,
-            },
-            CLEAR => Call::Clear { now },
-            ALLOCATE => Call::Allocate { now, max_fills },
-            EXERCISE => Call::Exercise {
-                now,
-                issuer: wallet,
-                fill,
-                qty,
-            },
-            CLOSE => Call::Close {
-                now,
-                caller: wallet,
-            },
-            SETTLE => Call::Settle { fill },
-            SKIP => Call::Skip { now, fill, reason },
-            FINISH => Call::Finish { now },
-            EXPIRE => Call::Expire { now },
-            _ => return Err(Refusal::BadField),
-        })
-    }
-}
-
 impl Session {
     // Any call, made where the session lies: a session is large. A refused call leaves it as it was.
     pub fn make(&mut self, call: &Call) -> Result<Said, Refusal>
@@ -371,27 +320,7 @@ pub(crate) enum Kind {
     Expire,
 }
 
-impl Call {
-    // 4 where a call's own arguments are outside their values: what ends a file.
-    #[tactic(auto, unfolding(laws::specs::Checks::unless, crate::specs::Call::arguments_refusal))]
-    pub fn arguments_refusal(&self) -> Result<(), Refusal>
-        ensures { refusal_in result ≡ arguments_refusal self.now }
-    {
-        match self {
-            Call::Screen {
-                side,
-                verdict,
-                has_id,
-                id,
-                ..
-            } => screening::arguments_refusal(*side, *verdict, *has_id, id),
-            Call::Skip { reason, .. } => Refusal::BadField.unless(*reason <= 6),
-            _ => Ok(()),
-        }
-    }
-}
-
-// The same of a call record.
+// 4 where the arguments that a record says are outside their values, as its kind may be.
 #[tactic(auto, unfolding(laws::specs::Checks::unless, laws::specs::Checks::first_of, crate::specs::Engine::record_arguments))]
 pub fn arguments_refusal(call: CallRecord) -> Result<(), Refusal>
     ensures { refusal_in result ≡ record_arguments call }
