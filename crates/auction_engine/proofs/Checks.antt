@@ -11,6 +11,7 @@ use Rattle.laws.proofs.Checking.{then_zero, then_pass, then_assoc, unless_zero, 
 use Rattle.clock.specs.Clock.{sum_fits}
 use Rattle.credit_math.specs.Limits.{max_orders}
 use Rattle.book.specs.Limits.{max_fills}
+use Rattle.book.specs.Book.{kind_fits}
 use Rattle.disclosure.specs.Disclosure.{max_band}
 use Rattle.auction_engine.specs.declared.Session.{Session}
 use Rattle.auction_engine.specs.Session.{order_at}
@@ -28,6 +29,7 @@ pub record Within (s : Session) : Type 0 where
   pub phase : s.phase ≤ 7
   pub policy : s.given.policy ≤ 3
   pub sides : every (λ i. leb (order_at s i).side 1) s.order_count ≡ true
+  pub kinds : every (λ i. kind_fits (order_at s i)) s.order_count ≡ true
 
 pub checked_within : (s : Session) → (limits_refusal s then fields_refusal s) ≡ 0 → Within s
 unfolding limits_refusal fields_refusal
@@ -39,6 +41,7 @@ checked_within s h =
     let reserve = check_zero _ 8 _ band.1 in
     let phase = check_zero _ 3 _ z.1 in
     let policy = check_zero _ 3 _ phase.1 in
+    let sides = check_zero _ 3 _ policy.1 in
     record {
       orders = leb-true _ _ orders.0;
       fills = leb-true _ _ fills.0;
@@ -47,7 +50,8 @@ checked_within s h =
       times = unless_zero _ 8 reserve.1;
       phase = leb-true _ _ phase.0;
       policy = leb-true _ _ policy.0;
-      sides = unless_zero _ 3 policy.1;
+      sides = sides.0;
+      kinds = unless_zero _ 3 sides.1;
     }
 
 -- what an accepted call passed

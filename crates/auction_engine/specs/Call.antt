@@ -7,7 +7,7 @@ use Rattle.laws.specs.Checks.{unless, ◌then◌}
 use Rattle.clock.specs.Clock.{sum_fits}
 use Rattle.credit_math.specs.Limits.{max_orders}
 use Rattle.book.specs.Limits.{max_fills}
-use Rattle.book.specs.Book.{no_investor, buy_side}
+use Rattle.book.specs.Book.{no_investor, buy_side, kind_fits}
 use Rattle.disclosure.specs.Disclosure.{max_band}
 use Rattle.auction_engine.specs.declared.Session.{Session}
 use Rattle.auction_engine.specs.declared.Call.{Call}
@@ -60,12 +60,14 @@ limits_refusal s =
     then unless (not (s.params.forced && nat_lt 0 s.given.reserve)) 9
     then unless (sum_fits s.params.reveal_end s.params.rofr_window) 9
 
--- 'then 4 a session field .. outside the values that the record list names for it, or a phase above 7'
+-- 'then 4 a session field .. outside the values that the record list names for it, or a phase above 7'; 'any library call gives 4' for an exclusion
+-- kind 'above 8 or at odds with the order's being excluded'
 unfoldable pub fields_refusal : Session → ℕ
 fields_refusal s =
     unless (nat_le s.phase 7) 4
     then unless (nat_le s.given.policy 3) 4
     then unless (every (λ i. nat_le (order_at s i).side 1) s.order_count) 4
+    then unless (every (λ i. kind_fits (order_at s i)) s.order_count) 4
 
 -- 'or argument': sides and verdicts in their range; 'Without has-id the id is zeros. A passed buy has an id'
 unfoldable pub arguments_refusal : Call → ℕ

@@ -1,5 +1,5 @@
 -- Clear.
-use Rattle.std.specs.Prelude.{if◌then◌else◌, not, ◌||◌, List, [], ◌∷◌, ℕ, zero, suc, ◌==◌, ℤ, slice_index, set}
+use Rattle.std.specs.Prelude.{Bool, if◌then◌else◌, not, ◌||◌, List, [], ◌∷◌, ℕ, zero, suc, ◌==◌, ℤ, slice_index, set}
 use Rattle.laws.specs.Search.{every}
 use Rattle.laws.specs.Checks.{unless, ◌then◌}
 use Rattle.book.specs.Book.{order_in, reorder}
@@ -15,12 +15,16 @@ use Rattle.auction_engine.specs.Call.{clear_kind, admits, in_window}
 abbrev pub outcome : Session → Outcome
 outcome s = compute_clear s.params s.given s.orders s.order_count
 
+-- no revealed order is unscreened
+abbrev pub all_ready : Session → Bool
+all_ready s = every (λ i. not (order_at s i).revealed || (order_at s i).screened) s.order_count
+
 -- Clear | 11; 10; 16 a revealed order unscreened
 abbrev pub clear_checks : Session → (now : ℤ) → ℕ
 clear_checks s now =
     unless (in_window s now) 11
     then unless (admits s.phase clear_kind) 10
-    then unless (every (λ i. not (order_at s i).revealed || (order_at s i).screened) s.order_count) 16
+    then unless (all_ready s) 16
 
 -- then 17 volume above 64 bits, which the outcome has
 unfoldable pub clear_refusal : Session → (now : ℤ) → ℕ
@@ -28,7 +32,7 @@ clear_refusal s now = clear_checks s now then (outcome s).refusal
 
 -- an order with its lot, none of it paired yet
 abbrev pub with_lot : Order → ℕ → Order
-with_lot o a = reorder o a a o.screened o.eligible o.investor_id
+with_lot o a = reorder o a a o.screened o.eligible o.exclusion o.investor_id
 
 -- the first n orders with their lots
 unfoldable pub with_lots : List Order → List ℕ → ℕ → List Order

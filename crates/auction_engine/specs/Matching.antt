@@ -15,7 +15,7 @@ use Rattle.auction_engine.specs.Call.{allocate_kind, admits, limits_refusal, fie
 
 -- the order with q less of its lot left
 abbrev pub less_left : Order → ℕ → Order
-less_left o q = reorder o o.alloc (o.alloc_left - q) o.screened o.eligible o.investor_id
+less_left o q = reorder o o.alloc (o.alloc_left - q) o.screened o.eligible o.exclusion o.investor_id
 
 -- an order of that side with something left
 abbrev pub due_on : (side : ℕ) → Order → Bool

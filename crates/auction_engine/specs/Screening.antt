@@ -27,9 +27,9 @@ exclusion_of s i verdict has_id id =
     then (if has_id then investor_exclusion s.orders s.order_count i id s.params.max_cash else 0)
     else verdict
 
--- 'A given id is stored even when the order is excluded'
+-- 'A given id is stored even when the order is excluded'; 'Exclusion kinds .. must be kept in the order from screening on'
 abbrev pub screened_as : Order → (exclusion : ℕ) (has_id : Bool) (id : List ℕ) → Order
-screened_as o e has_id id = reorder o o.alloc o.alloc_left true (e == 0) (if has_id then id else o.investor_id)
+screened_as o e has_id id = reorder o o.alloc o.alloc_left true (e == 0) e (if has_id then id else o.investor_id)
 
 -- the order is screened, in phase Clearing
 unfoldable pub screen_effect : Session → (i verdict : ℕ) (has_id : Bool) (id : List ℕ) → Session

@@ -98,8 +98,8 @@ impl Session {
     }
 }
 
-// An order that is not revealed needs no screen.
-fn all_ready(orders: &[Order]) -> bool
+// No revealed order is unscreened.
+pub fn all_ready(orders: &[Order]) -> bool
     ensures { result ≡ list_all (λ o. not o.revealed || o.screened) orders.now }
 {
     orders.iter().all(|o| !o.revealed | o.screened)

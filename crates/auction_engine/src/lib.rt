@@ -18,7 +18,7 @@ use refusals::Refusal;
 
 mod calls;
 pub mod clearing;
-mod first_checks;
+pub mod first_checks;
 pub mod matching;
 pub mod opening;
 pub mod rofr;

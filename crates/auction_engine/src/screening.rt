@@ -119,6 +119,7 @@ fn as_screened(o: &Order, exclusion: u8, has_id: bool, id: &[u8; 16]) -> Order
     Order {
         screened: true,
         eligible: exclusion == 0,
+        exclusion,
         investor_id: if has_id { *id } else { o.investor_id },
         ..*o
     }

@@ -29,7 +29,7 @@ module _ (orders : List Order) (n p : ℕ) where
   S buys = side_orders orders n buys p
 
   -- a side's orders stand once each, below the count, live and on the side
-  once : (buys : Bool) → Once (S buys)
+  pub once : (buys : Bool) → Once (S buys)
   unfolding side_orders live_orders
   once buys = once_keep (trades_at orders n buys p) (live_orders orders n) (once_keep (λ i. is_live (order_in orders i)) (table (λ i. i) (min n max_orders)) (once_table (λ i. i) (min n max_orders) (λ _ _ h. h)))
 
@@ -42,7 +42,7 @@ module _ (orders : List Order) (n p : ℕ) where
       let l = (live_inside orders n i).0 s.0 in
       rw (lt-ltb i n (omega (arith, l.0)), l.1, s.1)
 
-  of_side : (buys : Bool) (i : ℕ) → Member i (S buys) → is_buy (order_in orders i) ≡ buys
+  pub of_side : (buys : Bool) (i : ℕ) → Member i (S buys) → is_buy (order_in orders i) ≡ buys
   unfolding trades_at
   of_side buys i m = go buys (is_buy (order_in orders i)) ((side_inside orders n buys p i).0 m).1
     where
@@ -106,7 +106,7 @@ module _ (orders : List Order) (n p : ℕ) where
         )
 
     -- is the lot of its side
-    by_side : (i : ℕ) (b : Bool) → is_buy (order_in orders i) ≡ b → get_or (allocations orders n p v) i 0 ≡ lot_in b i
+    pub by_side : (i : ℕ) (b : Bool) → is_buy (order_in orders i) ≡ b → get_or (allocations orders n p v) i 0 ≡ lot_in b i
     by_side i true e = omega (arith, allocations_at i, other_side false i e)
     by_side i false e = omega (arith, allocations_at i, other_side true i e)
 

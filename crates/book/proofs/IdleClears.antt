@@ -55,6 +55,7 @@ order side limit qty =
       alloc_left = 0;
       screened = true;
       eligible = true;
+      exclusion = 0;
       investor_id = no_investor;
     }
 

@@ -5,4 +5,7 @@ pub mod Stored
 pub mod Outcomes
 pub mod Allocations
 pub mod Theorems
+pub mod Lots
+pub mod Sharers
+pub mod Same
 pub mod IdleClears

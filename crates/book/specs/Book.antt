@@ -1,5 +1,5 @@
 -- Orders and fills.
-use Rattle.std.specs.Prelude.{Bool, false, ◌&&◌, List, [], ℕ, ◌==◌, slice_index_or, replicate}
+use Rattle.std.specs.Prelude.{Bool, false, if◌then◌else◌, not, ◌&&◌, List, [], ℕ, ◌==◌, nat_lt, nat_le, slice_index_or, replicate}
 use Rattle.book.specs.declared.Order.{Order}
 use Rattle.book.specs.declared.Fill.{Fill}
 use Rattle.book.specs.declared.Row.{Row}
@@ -33,6 +33,7 @@ no_order =
       alloc_left = 0;
       screened = false;
       eligible = false;
+      exclusion = 0;
       investor_id = [];
     }
 
@@ -45,7 +46,7 @@ order_in orders i = slice_index_or orders i no_order
 abbrev pub fill_in : List Fill → ℕ → Fill
 fill_in fills i = slice_index_or fills i no_fill
 
--- an order as a file lists it: not screened, with no lot and no id
+-- an order as a file lists it: not screened, with no lot, no exclusion kind and no id
 abbrev pub listed : Row → Order
 listed row =
     record {
@@ -59,12 +60,13 @@ listed row =
       alloc_left = 0;
       screened = false;
       eligible = false;
+      exclusion = 0;
       investor_id = no_investor;
     }
 
 -- an order with other values in the fields that calls write
-abbrev pub reorder : Order → (alloc left : ℕ) (screened eligible : Bool) (id : List ℕ) → Order
-reorder o a left screened eligible id =
+abbrev pub reorder : Order → (alloc left : ℕ) (screened eligible : Bool) (exclusion : ℕ) (id : List ℕ) → Order
+reorder o a left screened eligible exclusion id =
     record {
       owner = o.owner;
       side = o.side;
@@ -76,6 +78,7 @@ reorder o a left screened eligible id =
       alloc_left = left;
       screened = screened;
       eligible = eligible;
+      exclusion = exclusion;
       investor_id = id;
     }
 
@@ -89,6 +92,18 @@ empty_fill = record { buyer = no_wallet; seller = no_wallet; qty = 0; rofr = fal
 -- `is_live`: takes part in the clear
 unfoldable pub is_live : Order → Bool
 is_live o = o.revealed && o.screened && o.eligible
+
+-- 'the order's being excluded': it was screened, and does not take part
+unfoldable pub is_excluded : Order → Bool
+is_excluded o = o.screened && not o.eligible
+
+-- 'Exclusion kinds, 1 to 8 or 0': Blocklisted 1 to NotSeasoned 6, SelfTrade 7, InvestorCapExceeded 8
+abbrev pub max_kind : ℕ
+max_kind = 8
+
+-- no kind 'above 8 or at odds with the order's being excluded': an excluded order has one, any other has none
+unfoldable pub kind_fits : Order → Bool
+kind_fits o = if is_excluded o then nat_lt 0 o.exclusion && nat_le o.exclusion max_kind else o.exclusion == 0
 
 abbrev pub is_buy : Order → Bool
 is_buy o = o.side == buy_side

@@ -162,7 +162,7 @@ impl Live {
 }
 
 // Buyers take part at or below their limit, sellers at or above it.
-fn trades_at(buys: bool, is_buy: bool, limit: u64, p: u64) -> bool
+pub fn trades_at(buys: bool, is_buy: bool, limit: u64, p: u64) -> bool
     ensures { result ≡ (if buys then is_buy && nat_le p limit else not is_buy && nat_le limit p) }
 {
     if buys {

@@ -2,7 +2,7 @@
 #![tactic(auto)]
 
 ghost use Rattle.std.specs.Prelude.{◌≡◌};
-ghost use Rattle.book.specs.Book.{is_live, listed};
+ghost use Rattle.book.specs.Book.{is_live, is_excluded, kind_fits, listed};
 
 use credit_math::MAX_ORDERS;
 
@@ -12,6 +12,9 @@ mod gathered;
 
 // The most fills of a session.
 pub const MAX_FILLS: usize = 24;
+
+// The highest exclusion kind.
+pub const MAX_KIND: u8 = 8;
 
 #[derive(Clone, Copy, Debug, Default, PartialEq, Eq)]
 pub struct Order {
@@ -28,6 +31,8 @@ pub struct Order {
     pub alloc_left: u64,
     pub screened: bool,
     pub eligible: bool,
+    // Why a screen excluded it: Blocklisted 1 to NotSeasoned 6, SelfTrade 7, InvestorCapExceeded 8; else 0.
+    pub exclusion: u8,
     // Zeros where none is known.
     pub investor_id: [u8; 16],
 }
@@ -94,6 +99,7 @@ impl From<Row> for Order {
             alloc_left: 0,
             screened: false,
             eligible: false,
+            exclusion: 0,
             investor_id: [0; 16],
         }
     }
@@ -106,5 +112,21 @@ impl Order {
         ensures { result ≡ is_live self.now }
     {
         self.revealed && self.screened && self.eligible
+    }
+
+    // Screened, and taking no part.
+    #[tactic(auto, unfolding(crate::specs::Book::is_excluded))]
+    pub fn is_excluded(&self) -> bool
+        ensures { result ≡ is_excluded self.now }
+    {
+        self.screened & !self.eligible
+    }
+
+    // An excluded order has a kind, any other has none.
+    #[tactic(auto, unfolding(crate::specs::Book::kind_fits))]
+    pub fn kind_fits(&self) -> bool
+        ensures { result ≡ kind_fits self.now }
+    {
+        (self.exclusion <= MAX_KIND) & ((self.exclusion != 0) == self.is_excluded())
     }
 }

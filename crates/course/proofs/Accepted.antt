@@ -9,12 +9,12 @@ use Rattle.laws.proofs.Lists.{same_true}
 use Rattle.laws.proofs.Checking.{then_zero, check_zero, unless_zero}
 use Rattle.book.specs.Limits.{max_fills}
 use Rattle.auction_engine.specs.declared.Session.{Session}
-use Rattle.auction_engine.specs.Session.{fill_at, allocating, issuer_rofr, settling}
+use Rattle.auction_engine.specs.Session.{order_at, fill_at, allocating, issuer_rofr, settling}
 use Rattle.auction_engine.specs.Call.{admits, limits_refusal, fields_refusal, arguments_refusal}
 use Rattle.auction_engine.specs.declared.Call.{Call}
 use Rattle.auction_engine.specs.declared.Call.TheVariants.{Screen, Clear, Allocate, Exercise, Close, Settle, Skip, Finish, Expire}
 use Rattle.auction_engine.specs.Screening.{screen_refusal}
-use Rattle.auction_engine.specs.Clearing.{outcome, clear_checks, clear_refusal}
+use Rattle.auction_engine.specs.Clearing.{outcome, all_ready, clear_checks, clear_refusal}
 use Rattle.auction_engine.specs.Matching.{overfull, allocate_refusal}
 use Rattle.auction_engine.specs.Rofr.{exercise_refusal, close_refusal}
 use Rattle.auction_engine.specs.Settlement.{settle_refusal, skip_refusal, finish_refusal, expire_refusal}
@@ -35,6 +35,10 @@ module _ (s : Session) (c : Call) (e : refusal s c ≡ 0) where
   unfolding refusal
   fields_pass = (then_zero (fields_refusal s) _ (then_zero (limits_refusal s) _ e).1).0
 
+  arguments_pass : arguments_refusal c ≡ 0
+  unfolding refusal
+  arguments_pass = (then_zero (arguments_refusal c) _ (then_zero (fields_refusal s) _ (then_zero (limits_refusal s) _ e).1).1).0
+
   own_passes : own_refusal s c ≡ 0
   unfolding refusal
   own_passes = (then_zero (arguments_refusal c) _ (then_zero (fields_refusal s) _ (then_zero (limits_refusal s) _ e).1).1).1
@@ -47,9 +51,27 @@ pub early_screen : (s : Session) (now : ℤ) (i side verdict : ℕ) (has_id : Bo
 unfolding own_refusal screen_refusal
 early_screen s now i side verdict has_id id e = (check_zero _ _ _ (check_zero _ _ _ (own_passes s (Screen now i side verdict has_id id) e)).1).0
 
+-- a screen
+pub record Screens (s : Session) (i verdict : ℕ) : Type 0 where
+  pub known : verdict ≤ 6
+  pub revealed : (order_at s i).revealed ≡ true
+  pub unscreened : (order_at s i).screened ≡ false
+
+pub screens : (s : Session) (now : ℤ) (i side verdict : ℕ) (has_id : Bool) (id : List ℕ) → refusal s (Screen now i side verdict has_id id) ≡ 0 → Screens s i verdict
+unfolding own_refusal screen_refusal arguments_refusal
+screens s now i side verdict has_id id e =
+    let a = check_zero _ _ _ (check_zero _ _ _ (arguments_pass s (Screen now i side verdict has_id id) e)).1 in
+    let b = check_zero _ _ _ (check_zero _ _ _ (check_zero _ _ _ (own_passes s (Screen now i side verdict has_id id) e)).1).1 in
+    let c = check_zero _ _ _ (check_zero _ _ _ b.1).1 in
+    record { known = leb-true _ _ a.0; revealed = c.0; unscreened = not-true _ (unless_zero _ _ c.1) }
+
 pub early_clear : (s : Session) (now : ℤ) → refusal s (Clear now) ≡ 0 → Early s.phase
 unfolding own_refusal clear_refusal admits
 early_clear s now e = (check_zero _ _ _ (check_zero _ _ _ (then_zero (clear_checks s now) (outcome s).refusal (own_passes s (Clear now) e)).0).1).0
+
+pub all_screened : (s : Session) (now : ℤ) → refusal s (Clear now) ≡ 0 → all_ready s ≡ true
+unfolding own_refusal clear_refusal
+all_screened s now e = unless_zero _ _ (check_zero _ _ _ (check_zero _ _ _ (then_zero (clear_checks s now) (outcome s).refusal (own_passes s (Clear now) e)).0).1).1
 
 pub outcome_passes : (s : Session) (now : ℤ) → refusal s (Clear now) ≡ 0 → (outcome s).refusal ≡ 0
 unfolding own_refusal clear_refusal

@@ -25,6 +25,7 @@ use Rattle.course.specs.Demand3.{after, allowance, allowances, is_expire, expire
 use Rattle.course.proofs.Matching.{Allotted}
 use Rattle.course.proofs.ToCome.{to_come, room, kept_by_fills}
 use Rattle.course.proofs.Fills.{after_fills_add, after_fills_phase, after_fills_params, after_fills_given}
+use Rattle.course.proofs.Rows.{after_fills_kept}
 use Rattle.course.proofs.Checked.{limits_kept, fields_kept}
 use Rattle.course.proofs.Accepted.{noted, Early, early_screen, early_clear, exercised, at_close, settles, skips, at_finish}
 use Rattle.course.proofs.Enough.{enough, open_start, never_full}
@@ -43,14 +44,14 @@ matched_phase t e = rw e (go (same t.params.rofr_authority no_wallet))
 
 module _ (s : Session) (A : Allotted s) where
   -- while the matching is open no allocate is refused
-  never_refused : (k : ℕ) (now : ℤ) (n : ℕ) → refusal (after_fills k s) (Allocate now n) ≡ 0
+  pub never_refused : (k : ℕ) (now : ℤ) (n : ℕ) → refusal (after_fills k s) (Allocate now n) ≡ 0
   unfolding refusal arguments_refusal own_refusal allocate_refusal admits
   never_refused k now n =
       let t = after_fills k s in
       let C = kept_by_fills s A k in
       let phase : t.phase ≡ allocating = after_fills_phase k s ∙ A.at in
       then_both _ _ (limits_kept s t C.kept.orders (after_fills_given k s) (after_fills_params k s) (omega (arith, room s t A C)) A.limits)
-      (then_both _ _ (fields_kept s t C.kept.orders (after_fills_given k s) (omega (arith, phase)) (λ i _. C.kept.side i) A.fields)
+      (then_both _ _ (fields_kept s t C.kept.orders (after_fills_given k s) (omega (arith, phase)) (λ i _. (after_fills_kept k s).orders i) A.fields)
       (then_both _ _ refl (check_pass _ _ _ (rw phase) (unless_pass _ _ (rw (never_full s A n t C))))))
 
   -- while the matching is open, the session is the start with k fills, k the allowances so far

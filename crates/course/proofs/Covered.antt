@@ -33,15 +33,16 @@ use Rattle.course.specs.Covered.{CoveredAtClear}
 use Rattle.course.proofs.Accepted.{outcome_passes}
 use Rattle.course.proofs.Lots.{clear_has_price}
 use Rattle.course.proofs.Start.{events_say}
-use Rattle.course.proofs.Rows.{row_of, SameRows, all_more, rows_keep, effect_rows, calls_rows}
+use Rattle.course.proofs.Orders.{row_of}
+use Rattle.course.proofs.Rows.{OrdersKept, all_more, rows_keep, effect_kept, calls_kept}
 
 module _ (decimals : ℕ) where
   -- every order of a session is covered
   abbrev AllCovered : Session → Type 0
   AllCovered s = (i : ℕ) → i < s.order_count → Covers decimals (row_of (order_at s i))
 
-  same_rows_covered : (s t : Session) → SameRows s t → AllCovered s → AllCovered t
-  same_rows_covered s t same all i l = subst (Covers decimals) (sym (same.rows i)) (all i (subst (λ n. i < n) same.count l))
+  kept_covered : (s t : Session) → OrdersKept s t → AllCovered s → AllCovered t
+  kept_covered s t kept all i l = subst (Covers decimals) (sym (kept.orders i).row) (all i (subst (λ n. i < n) kept.count l))
 
   -- ---- the opening
   -- while orders come, each has its place
@@ -97,12 +98,12 @@ module _ (p : Params) (g : Given) (orders : List Order) (n price i : ℕ) where
 pub covered_at_clear : CoveredAtClear
 covered_at_clear s j decimals cover =
     let u = (after (opened j.opening) j.calls).session in
-    let all = same_rows_covered decimals (opened j.opening) u (calls_rows (opened j.opening) j.calls) (opened_covered decimals j.opening cover) in
+    let all = kept_covered decimals (opened j.opening) u (calls_kept (opened j.opening) j.calls) (opened_covered decimals j.opening cover) in
     let says = events_say u j.now j.price j.volume j.reserve j.reference j.others j.line in
     let P = clear_has_price u.params u.given u.orders u.order_count (outcome_passes u j.now j.accepted) says.0 in
-    let same : SameRows u s = subst (SameRows u) (sym j.is) (effect_rows u (Clear j.now)) in
+    let kept : OrdersKept u s = subst (OrdersKept u) (sym j.is) (effect_kept u (Clear j.now) j.accepted) in
     let paid : (i : ℕ) → i < s.order_count → Paid decimals j.price (lot_of j i) (row_of (order_at s i)) =
-    λ i l. rw (same.rows i, ← says.1)
+    λ i l. rw ((kept.orders i).row, ← says.1)
     (lot_paid u.params u.given u.orders u.order_count (outcome u).price i decimals (outcome u).volume (outcome u).lots P.lots
-    (all i (omega (arith, l, same.count)))) in
+    (all i (omega (arith, l, kept.count)))) in
     record { buy = λ i l. (paid i l).buy; sell = λ i l. (paid i l).sell }

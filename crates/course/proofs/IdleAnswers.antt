@@ -15,7 +15,7 @@ use Rattle.clock.specs.Clock.{sum_fits}
 use Rattle.credit_math.specs.Price.{buy, sell, executed, imbalance, executes, better, candidates, clear_price, price_refusal, find_uniform_clear_price}
 use Rattle.credit_math.specs.ProRata.{share, shares, residue, precedes, turns, hand_out}
 use Rattle.credit_math.specs.ProRata as prorata
-use Rattle.book.specs.Book.{is_live}
+use Rattle.book.specs.Book.{is_live, is_excluded, kind_fits}
 use Rattle.book.specs.Clear.{stored, live_orders, searched, trades_at, side_orders, side_lots, allocations, allotted, floor_of, compute_clear}
 use Rattle.investors.specs.Exclusion.{is_other, self_trade, cash_of, investor_exclusion}
 use Rattle.auction_engine.specs.declared.Session.{Session}
@@ -43,7 +43,7 @@ pub record Fixed (a : Answered) : Type 0 where
   pub left : (order_at a.session 0).alloc_left ≡ 5
 
 passes : checks screened (pos 150) ≡ 0
-unfolding sum_below count first every some unless first_of sum_fits is_live is_other self_trade cash_of investor_exclusion fresh admits limits_refusal fields_refusal in_window exclusion_of screen_effect effect with_order
+unfolding sum_below count first every some unless first_of sum_fits is_live is_excluded kind_fits is_other self_trade cash_of investor_exclusion fresh admits limits_refusal fields_refusal in_window exclusion_of screen_effect effect with_order
 passes = refl
 
 in_clearing : screened.phase ≡ clearing
@@ -51,7 +51,7 @@ unfolding sum_below count first every some unless first_of is_live is_other self
 in_clearing = refl
 
 answered : Fixed (answer screened (Clear (pos 150)))
-unfolding sum_below count sum_of first every some table keep insert sort dedup lex unless first_of sum_fits buy sell executed imbalance executes better candidates clear_price price_refusal find_uniform_clear_price share shares residue precedes turns hand_out prorata.lots is_live stored live_orders searched trades_at side_orders side_lots allocations allotted floor_of compute_clear is_other self_trade cash_of investor_exclusion fresh admits limits_refusal fields_refusal arguments_refusal in_window exclusion_of screen_effect clear_refusal with_lots cleared_by clear_lines own_refusal refusal effect events answer with_order
+unfolding sum_below count sum_of first every some table keep insert sort dedup lex unless first_of sum_fits buy sell executed imbalance executes better candidates clear_price price_refusal find_uniform_clear_price share shares residue precedes turns hand_out prorata.lots is_live is_excluded kind_fits stored live_orders searched trades_at side_orders side_lots allocations allotted floor_of compute_clear is_other self_trade cash_of investor_exclusion fresh admits limits_refusal fields_refusal arguments_refusal in_window exclusion_of screen_effect clear_refusal with_lots cleared_by clear_lines own_refusal refusal effect events answer with_order
 answered = record { phase = refl; price = refl; volume = refl; lot = refl; left = refl }
 
 -- a right answer is that one

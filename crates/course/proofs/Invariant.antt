@@ -99,7 +99,7 @@ pub data Stage (s₀ : Session) (r : Run) : Type 0 where
 
 -- the stage that a phase says
 module _ {s₀ : Session} {r : Run} where
-  is_matching : Stage s₀ r → r.session.phase ≡ allocating → Matching s₀ r
+  pub is_matching : Stage s₀ r → r.session.phase ≡ allocating → Matching s₀ r
   is_matching (in_matching m) e = m
   is_matching (in_rofr m) e = absurd (omega (arith, m.at))
   is_matching (in_settling m) e = absurd (omega (arith, m.at))

@@ -2,6 +2,7 @@
 pub mod Matching
 pub mod ToCome
 pub mod Fills
+pub mod Orders
 pub mod Purchases
 pub mod Marks
 pub mod Accepted
@@ -28,3 +29,5 @@ pub mod LinesOfPrints
 pub mod Lines
 pub mod Rows
 pub mod Covered
+pub mod Exclusions
+pub mod Open

@@ -39,7 +39,7 @@ module _ (s : Session) (l : List ℕ) where
 
   fields_in_lem : Member 4 l → Member (fields_refusal s) (0 ∷ l)
   unfolding fields_refusal
-  fields_in_lem m = check_in l _ 4 _ m (check_in l _ 4 _ m (unless_in l _ 4 m))
+  fields_in_lem m = check_in l _ 4 _ m (check_in l _ 4 _ m (check_in l _ 4 _ m (unless_in l _ 4 m)))
 
   -- an outcome is refused with 17 or not at all
   outcome_in : Member math_overflow l → Member (outcome s).refusal (0 ∷ l)

@@ -1,27 +1,27 @@
--- What a file listed of an order stays: neither an order more nor a call changes an order's row, and no call how many orders there are. Assumes nothing.
+-- What a file listed of an order stays: an order more changes no row of the others, and calls change neither the number of orders nor what is kept of
+-- each (proofs/Orders.antt). Assumes nothing.
 use Rattle.std.specs.Prelude.{Option}
 use mathlib.Core.Path.{◌≡◌, refl, sym, ap, ◌∙◌, subst}
 use mathlib.Core.Logic.{◌≢◌, ⊎_elim}
 use mathlib.Core.Bool.{Bool, true, false, cond}
 use mathlib.Core.List.{List, [], ◌∷◌}
-use Prim.Native.Nat.{ℕ, zero, suc, ◌+◌, ◌<◌}
+use Prim.Native.Nat.{ℕ, ◌+◌, ◌<◌}
 use native.Mathlib.Decide.{ℕ_discrete}
 use native.Mathlib.Omega.{arith}
+use borrow.Author.Tests.{eqb-true}
 use lib.Dec.{eqb}
-use lib.ListN.{length, set}
+use lib.ListN.{length}
 use lib.Seq.{get_or-set_same, get_or-set_other}
 use Rattle.laws.proofs.Tests.{tested}
-use Rattle.laws.proofs.Lists.{unseen}
-use Rattle.book.specs.Book.{no_order, order_in, listed}
-use Rattle.book.specs.declared.Order.{Order}
+use Rattle.book.specs.Book.{no_order, listed}
 use Rattle.book.specs.declared.Row.{Row}
 use Rattle.auction_engine.specs.declared.Session.{Session}
 use Rattle.auction_engine.specs.Session.{order_at, at_phase}
 use Rattle.auction_engine.specs.declared.Call.{Call}
 use Rattle.auction_engine.specs.declared.Call.TheVariants.{Screen, Clear, Allocate, Exercise, Close, Settle, Skip, Finish, Expire}
 use Rattle.auction_engine.specs.Screening.{screen_effect}
-use Rattle.auction_engine.specs.Clearing.{outcome, with_lots, cleared_by}
-use Rattle.auction_engine.specs.Matching.{less_left, pair, after_fills, done, phase_after, matched, allocate_effect}
+use Rattle.auction_engine.specs.Clearing.{outcome, cleared_by}
+use Rattle.auction_engine.specs.Matching.{after_fills, done, phase_after, matched, allocate_effect}
 use Rattle.auction_engine.specs.Rofr.{exercise_effect, close_effect}
 use Rattle.auction_engine.specs.Settlement.{settle_effect, skip_effect, finish_effect, expire_effect}
 use Rattle.auction_engine.specs.Engine.{refusal, effect, answer}
@@ -29,25 +29,25 @@ use Rattle.auction_engine.specs.Opening.{order_refusal, with_order, with_rows, R
 use Rattle.auction_engine.proofs.Fills.{after_fills_orders}
 use Rattle.course.specs.Applied.{session_after}
 use Rattle.course.specs.Demand3.{after}
-use Rattle.course.proofs.Fills.{after_fills_frame}
+use Rattle.course.proofs.Orders.{row_of, lotless, OrderKept, but_for_lot, kept_on, set_kept, lots_lotless, after_fills_lotless, exclusion_known, screened_kept}
+use Rattle.course.proofs.Accepted.{screens}
 use Rattle.course.proofs.Applied.{run_is_answers}
 
--- the row that an order was listed by
-abbrev pub row_of : Order → Row
-row_of o = record { owner = o.owner; side = o.side; escrowed = o.escrowed; revealed = o.revealed; limit = o.limit; qty = o.qty }
-
--- t has as many orders as s, of the same rows
-pub record SameRows (s t : Session) : Type 0 where
+-- t has as many orders as s, and of each is kept what calls keep
+pub record OrdersKept (s t : Session) : Type 0 where
   pub count : t.order_count ≡ s.order_count
-  pub rows : (i : ℕ) → row_of (order_at t i) ≡ row_of (order_at s i)
+  pub orders : (i : ℕ) → OrderKept (order_at s i) (order_at t i)
 
-same_rows : (s : Session) → SameRows s s
-same_rows s = record { count = refl; rows = λ i. refl }
+pub orders_but_for_lots : (s t : Session) → t.order_count ≡ s.order_count → ((i : ℕ) → lotless (order_at t i) ≡ lotless (order_at s i)) → OrdersKept s t
+orders_but_for_lots s t n e = record { count = n; orders = λ i. but_for_lot (order_at s i) (order_at t i) (e i) }
 
-rows_on : (s t u : Session) → SameRows s t → SameRows t u → SameRows s u
-rows_on s t u a b = record { count = b.count ∙ a.count; rows = λ i. b.rows i ∙ a.rows i }
+orders_same : (s : Session) → OrdersKept s s
+orders_same s = orders_but_for_lots s s refl (λ i. refl)
 
-either : (x : Bool) (s t u : Session) → SameRows s t → SameRows s u → SameRows s (cond x t u)
+orders_on : (s t u : Session) → OrdersKept s t → OrdersKept t u → OrdersKept s u
+orders_on s t u a b = record { count = b.count ∙ a.count; orders = λ i. kept_on (order_at s i) (order_at t i) (order_at u i) (a.orders i) (b.orders i) }
+
+either : (x : Bool) (s t u : Session) → OrdersKept s t → OrdersKept s u → OrdersKept s (cond x t u)
 either true s t u a b = a
 either false s t u a b = b
 
@@ -76,57 +76,43 @@ pub rows_keep : (P : Session → Type 0) (cover : Option ℕ) → ((s : Session)
 rows_keep P cover step s [] a p = p
 rows_keep P cover step s (row ∷ rows) a p = rows_keep P cover step (with_order s row) rows a.1 (step s row a.0 p)
 
--- ---- lots and fills
-pub lots_rows : (orders : List Order) (lots : List ℕ) (n i : ℕ) → row_of (order_in (with_lots orders lots n) i) ≡ row_of (order_in orders i)
-unfolding with_lots
-lots_rows orders lots zero i = refl
-lots_rows orders lots (suc n) i = unseen row_of (with_lots orders lots n) n _ no_order (sym (lots_rows orders lots n n)) i ∙ lots_rows orders lots n i
-
-pair_rows : (t : Session) (b a q i : ℕ) → row_of (order_at (pair t b a q) i) ≡ row_of (order_at t i)
-unfolding pair
-pair_rows t b a q i =
-    let half : List Order = set t.orders b (less_left (order_at t b) q) in
-    let kept : (j : ℕ) → row_of (order_in half j) ≡ row_of (order_at t j) = unseen row_of t.orders b (less_left (order_at t b) q) no_order refl in
-    unseen row_of half a (less_left (order_at t a) q) no_order (sym (kept a)) i ∙ kept i
-
-pub after_fills_rows : (n : ℕ) (s : Session) → SameRows s (after_fills n s)
-after_fills_rows n s = record {
-  count = after_fills_orders n s;
-  rows = λ i. after_fills_frame (λ t. row_of (order_at t i)) (λ t b a q. pair_rows t b a q i) n s;
-}
-
-matched_rows : (t : Session) → SameRows t (matched t)
-matched_rows t = either (done t) t (at_phase t (phase_after t)) t (record { count = refl; rows = λ i. refl }) (same_rows t)
-
 -- ---- a call
-pub effect_rows : (s : Session) (c : Call) → SameRows s (effect s c)
+pub after_fills_kept : (n : ℕ) (s : Session) → OrdersKept s (after_fills n s)
+after_fills_kept n s = orders_but_for_lots s (after_fills n s) (after_fills_orders n s) (after_fills_lotless n s)
+
+matched_kept : (t : Session) → OrdersKept t (matched t)
+matched_kept t = either (done t) t (at_phase t (phase_after t)) t (orders_but_for_lots t _ refl (λ i. refl)) (orders_same t)
+
+pub effect_kept : (s : Session) (c : Call) → refusal s c ≡ 0 → OrdersKept s (effect s c)
 unfolding effect screen_effect cleared_by allocate_effect exercise_effect close_effect settle_effect skip_effect finish_effect expire_effect
-effect_rows s (Screen now i side verdict has_id id) = record { count = refl; rows = λ j. unseen row_of s.orders i _ no_order refl j }
-effect_rows s (Clear now) =
+effect_kept s (Screen now i side verdict has_id id) e =
+    let S = screens s now i side verdict has_id id e in
+    record { count = refl; orders = set_kept s.orders i _ (screened_kept (order_at s i) _ has_id id S.unscreened (exclusion_known s i verdict has_id id S.known)) }
+effect_kept s (Clear now) e =
     either (eqb (outcome s).failed 0) s _ _
-    (record { count = refl; rows = lots_rows s.orders (outcome s).lots s.order_count })
-    (record { count = refl; rows = λ j. refl })
-effect_rows s (Allocate now n) = rows_on s (after_fills n s) (matched (after_fills n s)) (after_fills_rows n s) (matched_rows (after_fills n s))
-effect_rows s (Exercise now issuer i q) = record { count = refl; rows = λ j. refl }
-effect_rows s (Close now caller) = record { count = refl; rows = λ j. refl }
-effect_rows s (Settle i) = record { count = refl; rows = λ j. refl }
-effect_rows s (Skip now i reason) = record { count = refl; rows = λ j. refl }
-effect_rows s (Finish now) = record { count = refl; rows = λ j. refl }
-effect_rows s (Expire now) = record { count = refl; rows = λ j. refl }
+    (orders_but_for_lots s _ refl (lots_lotless s.orders (outcome s).lots s.order_count))
+    (orders_but_for_lots s _ refl (λ j. refl))
+effect_kept s (Allocate now n) e = orders_on s (after_fills n s) (matched (after_fills n s)) (after_fills_kept n s) (matched_kept (after_fills n s))
+effect_kept s (Exercise now issuer i q) e = orders_but_for_lots s _ refl (λ j. refl)
+effect_kept s (Close now caller) e = orders_but_for_lots s _ refl (λ j. refl)
+effect_kept s (Settle i) e = orders_but_for_lots s _ refl (λ j. refl)
+effect_kept s (Skip now i reason) e = orders_but_for_lots s _ refl (λ j. refl)
+effect_kept s (Finish now) e = orders_but_for_lots s _ refl (λ j. refl)
+effect_kept s (Expire now) e = orders_but_for_lots s _ refl (λ j. refl)
 
 -- ---- calls in turn
-answer_rows : (s : Session) (c : Call) → SameRows s (answer s c).session
+answer_kept : (s : Session) (c : Call) → OrdersKept s (answer s c).session
 unfolding answer
-answer_rows s c =
+answer_kept s c =
     ⊎_elim
-    (λ (t : eqb (refusal s c) 0 ≡ true). rw t (effect_rows s c))
-    (λ (t : eqb (refusal s c) 0 ≡ false). rw t (same_rows s))
+    (λ (t : eqb (refusal s c) 0 ≡ true). rw t (effect_kept s c (eqb-true (refusal s c) 0 t)))
+    (λ (t : eqb (refusal s c) 0 ≡ false). rw t (orders_same s))
     (tested (eqb (refusal s c) 0))
 
-answers_rows : (s : Session) (calls : List Call) → SameRows s (session_after s calls)
-answers_rows s [] = same_rows s
-answers_rows s (c ∷ calls) =
-    rows_on s (answer s c).session (session_after (answer s c).session calls) (answer_rows s c) (answers_rows (answer s c).session calls)
+answers_kept : (s : Session) (calls : List Call) → OrdersKept s (session_after s calls)
+answers_kept s [] = orders_same s
+answers_kept s (c ∷ calls) =
+    orders_on s (answer s c).session (session_after (answer s c).session calls) (answer_kept s c) (answers_kept (answer s c).session calls)
 
-pub calls_rows : (s : Session) (calls : List Call) → SameRows s (after s calls).session
-calls_rows s calls = subst (SameRows s) (sym (run_is_answers s calls)) (answers_rows s calls)
+pub calls_kept : (s : Session) (calls : List Call) → OrdersKept s (after s calls).session
+calls_kept s calls = subst (OrdersKept s) (sym (run_is_answers s calls)) (answers_kept s calls)

@@ -25,6 +25,7 @@ use Rattle.auction_engine.specs.Engine.{effect, events}
 use Rattle.auction_engine.specs.Opening.{opened}
 use Rattle.course.specs.Demand3.{JustCleared, after, lot_of}
 use Rattle.course.proofs.Matching.{Allotted, lot_on}
+use Rattle.course.proofs.Orders.{lotless, but_for_lot}
 use Rattle.course.proofs.Accepted.{limits_pass, fields_pass, early_clear, outcome_passes}
 use Rattle.course.proofs.Opened.{Unfilled, still_unfilled}
 use Rattle.course.proofs.Lotted.{lots_places, lots_at_lem}
@@ -38,7 +39,7 @@ line_says true p v r m w p' v' r' m' ks ms others e = (refl, cc, cc)
 line_says false p v r m w p' v' r' m' ks ms others e = (cc, cc, cc)
 
 -- what a clear with a price hands back
-abbrev priced : Session → Session
+abbrev pub priced : Session → Session
 priced s =
     remake s
     (record { clear_price = (outcome s).price; cleared_volume = (outcome s).volume; reserve_price = floor_of s.params s.given; reference_mark = s.given.reference })
@@ -64,7 +65,7 @@ module _ (s : Session) (U : Unfilled s) (limits : limits_refusal s ≡ 0) (field
       record {
         at = refl;
         limits = limits_kept s (priced s) refl refl refl (omega (arith, U.no_fills)) limits;
-        fields = fields_kept s (priced s) refl refl (omega arith) side fields;
+        fields = fields_kept s (priced s) refl refl (omega arith) (λ i l. but_for_lot (order_at s i) (order_at (priced s) i) (ap lotless (order_at_lem i l))) fields;
         few = few_orders s limits;
         sides = λ i l. omega (arith, side i l, known_sides s fields i l);
         order_places = lots_places s.orders (outcome s).lots s.order_count ∙ U.order_places;
@@ -92,7 +93,7 @@ events_say s now price volume reserve reference others e =
     let h = line_says (eqb (outcome s).failed 0) (outcome s).price (outcome s).volume _ _ (outcome s).failed price volume reserve reference _ _ others e in
     (eqb-true _ _ h.0, h.1, h.2)
 
-effect_priced : (s : Session) (now : ℤ) → (outcome s).failed ≡ 0 → effect s (Clear now) ≡ priced s
+pub effect_priced : (s : Session) (now : ℤ) → (outcome s).failed ≡ 0 → effect s (Clear now) ≡ priced s
 unfolding effect
 effect_priced s now e = clear_priced s e
 

@@ -8,3 +8,4 @@ pub mod Demand2
 pub mod Lines
 pub mod Refusals
 pub mod Covered
+pub mod Exclusions

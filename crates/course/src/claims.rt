@@ -10,6 +10,7 @@ ghost use Rattle.course.specs.Refusals.{RefusedByItsRow, RecordRefusedByItsRow};
 ghost use Rattle.course.specs.Applied.{RunIsAnswers, ApplyIsRun};
 ghost use Rattle.course.specs.Covered.{CoveredAtClear};
 ghost use Rattle.course.specs.CaseL.{CaseL};
+ghost use Rattle.course.specs.Exclusions.{KindsFit, KindIsKept};
 
 pub fn demand2()
     ensures { (s : Session) (now : ℤ) → Demand2 s now }
@@ -49,6 +50,14 @@ pub fn apply_is_run()
 
 pub fn covered_at_clear()
     ensures { CoveredAtClear }
+{}
+
+pub fn kinds_fit()
+    ensures { KindsFit }
+{}
+
+pub fn kind_is_kept()
+    ensures { KindIsKept }
 {}
 
 pub fn case_l()

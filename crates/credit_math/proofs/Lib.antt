@@ -12,6 +12,7 @@ pub mod PriceTheorems
 pub mod TableTheorems
 pub mod Turns
 pub mod Sorted
+pub mod Sequence
 pub mod Shares
 pub mod Allotting
 pub mod ProRataRefusals

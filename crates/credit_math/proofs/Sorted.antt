@@ -41,12 +41,13 @@ module _ (qtys : List ℕ) (total : ℕ) where
   unfolding shares
   length_shares = grind (arith, length_table)
 
-module _ (ids qtys : List ℕ) (total : ℕ) where
+module _ (ids qtys : List ℕ) where
   -- a place is among the first r where fewer than r places come before it
-  turns_at : (r i : ℕ) → i < length qtys → count_in (λ j. eqb j i) (take r (turns ids qtys)) ≡ only (ltb (rank ids qtys i) r) 1
+  pub turns_at : (r i : ℕ) → i < length qtys → count_in (λ j. eqb j i) (take r (turns ids qtys)) ≡ only (ltb (rank ids qtys i) r) 1
   unfolding turns rank
   turns_at r i h = sorted_at_rank (precedes ids qtys) (before ids qtys) (before_irrefl ids qtys) (before_trans ids qtys) (before_total ids qtys) (before_later ids qtys) (length qtys) r i h
 
+module _ (ids qtys : List ℕ) (total : ℕ) where
   -- as many lots as quantities
   pub length_lots : length (lots ids qtys total) ≡ length qtys
   unfolding lots shares

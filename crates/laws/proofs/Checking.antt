@@ -1,12 +1,14 @@
 -- Laws of lists of checks. Assumes nothing.
-use mathlib.Core.Path.{◌≡◌, refl, sym, ◌∙◌, subst}
+use Rattle.std.specs.Prelude.{Result, Ok, Err, IsErrAnd}
+use mathlib.Core.Path.{◌≡◌, refl, sym, ap, ◌∙◌, subst}
 use mathlib.Core.Logic.{inl, inr}
-use mathlib.Core.Bool.{Bool, true, false}
+use mathlib.Core.Bool.{Bool, true, false, ◌&&◌}
 use mathlib.Core.List.{List, ◌∷◌}
 use Prim.Native.Nat.{ℕ, zero, suc}
 use native.Mathlib.Omega.{arith}
 use lib.Dec.{eqb-suc-zero}
 use borrow.Author.Tests.{ne_eqb, eq-eqb}
+use Rattle.refusals.specs.declared.Refusal.{Refusal}
 use Rattle.laws.specs.Checks.{unless, ◌then◌, first_of}
 use Rattle.laws.specs.Lists.{Member}
 
@@ -45,6 +47,14 @@ unless_pass t n h = rw h
 pub check_pass : (t : Bool) (n rest : ℕ) → t ≡ true → rest ≡ 0 → (unless t n then rest) ≡ 0
 check_pass t n rest h e = then_both (unless t n) rest (unless_pass t n h) e
 
+-- two checks of one number are one
+pub two_checks : (a b : Bool) (n : ℕ) → unless (a && b) n ≡ (unless a n then unless b n)
+unfolding unless first_of
+two_checks true b n = refl
+two_checks false true zero = refl
+two_checks false false zero = refl
+two_checks false b (suc n) = then_stop (suc n) (unless b (suc n)) (λ e. omega arith)
+
 -- checks in stages
 pub then_assoc : (a b c : ℕ) → ((a then b) then c) ≡ (a then b then c)
 unfolding first_of
@@ -64,3 +74,8 @@ unless_in l false n m = inr m
 
 pub check_in : (l : List ℕ) (t : Bool) (n rest : ℕ) → Member n l → Member rest (0 ∷ l) → Member (unless t n then rest) (0 ∷ l)
 check_in l t n rest m k = then_in l (unless t n) rest (unless_in l t n m) k
+
+-- ---- an answer that is refused
+pub refused_as : {A : Type 0} (r : Result A Refusal) {x : Refusal} → IsErrAnd r (λ e. e ≡ x) → r ≡ Err x
+refused_as (Ok a) h = absurd h
+refused_as (Err y) h = ap Err h

@@ -17,3 +17,4 @@ pub mod Checking
 pub mod Bits
 pub mod Members
 pub mod Only
+pub mod Placed

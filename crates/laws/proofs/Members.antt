@@ -1,7 +1,7 @@
 -- Membership of a number in a list as a test, and what it says of lists with the same members. Assumes nothing.
-use mathlib.Core.Path.{◌≡◌, refl, sym, ap, ◌∙◌}
+use mathlib.Core.Path.{◌≡◌, refl, sym, ap, ◌∙◌, subst}
 use mathlib.Core.Logic.{◌≢◌, ◌↔◌, inl, inr, ⊎_elim}
-use mathlib.Core.Bool.{Bool, true, false, ◌||◌, or-true, or_assoc}
+use mathlib.Core.Bool.{Bool, true, false, ◌&&◌, ◌||◌, or-true, or_assoc}
 use mathlib.Core.List.{List, [], ◌∷◌, ◌++◌}
 use Prim.Native.Nat.{ℕ, ◌+◌, ◌<◌}
 use native.Mathlib.Omega.{arith}
@@ -9,7 +9,7 @@ use lib.Dec.{eqb}
 use borrow.Author.Tests.{eqb-true, eq-eqb, ne_eqb}
 use Rattle.laws.specs.Sums.{sum_below, only, count}
 use Rattle.laws.specs.Lists.{Member, has}
-use Rattle.laws.proofs.Tests.{clash, is_false}
+use Rattle.laws.proofs.Tests.{both, clash, is_false}
 use Rattle.laws.proofs.Sums.{sum_at}
 
 pub has_head : (i : ℕ) (l : List ℕ) → has (i ∷ l) i ≡ true
@@ -47,6 +47,18 @@ has_same l k i e = go (has l i) refl
     go : (b : Bool) → has l i ≡ b → b ≡ has k i
     go true h = sym (member_has k i (e.0 (has_member l i h)))
     go false h = sym (is_false (has k i) (λ t. clash (has l i) (member_has l i (e.1 (has_member k i t))) h))
+
+-- each number of one list stands in another
+unfoldable pub all_in : (l k : List ℕ) → Bool
+all_in [] k = true
+all_in (x ∷ l) k = has k x && all_in l k
+
+pub member_in : (l k : List ℕ) → all_in l k ≡ true → (n : ℕ) → Member n l → Member n k
+unfolding all_in
+member_in [] k h n m = absurd m
+member_in (x ∷ l) k h n m =
+    let b = both (has k x) (all_in l k) h in
+    ⊎_elim (λ (e : n ≡ x). subst (λ (i : ℕ). Member i k) (sym e) (has_member k x b.0)) (λ r. member_in l k b.1 n r) m
 
 -- a sum over the members, with one more
 pub has_sum : (f : ℕ → ℕ) (n i : ℕ) (l : List ℕ) → i < n → has l i ≡ false → sum_below (λ j. only (has (i ∷ l) j) (f j)) n ≡ sum_below (λ j. only (has l j) (f j)) n + f i

@@ -1,6 +1,6 @@
 -- Laws of searches and tests below a count. Assumes nothing.
 use mathlib.Core.Path.{◌≡◌, refl, sym, ap, ap₂, ◌∙◌}
-use mathlib.Core.Bool.{Bool, true, false, cond, ◌||◌}
+use mathlib.Core.Bool.{Bool, true, false, cond, ◌&&◌, ◌||◌}
 use Prim.Native.Nat.{ℕ, zero, suc, ◌+◌, ◌≤◌, ◌<◌}
 use native.Mathlib.Nat.{le_refl, le_step, not-suc-le-zero}
 use native.Mathlib.Decide.{ℕ_discrete}
@@ -99,3 +99,15 @@ pub some_same : (p q : ℕ → Bool) (n : ℕ) → ((i : ℕ) → i < n → p i 
 unfolding some
 some_same p q zero h = refl
 some_same p q (suc n) h = ap₂ ◌||◌ (some_same p q n (λ i l. h i (le_step l))) (h n (le_refl (suc n)))
+
+-- two tests of every number
+pub every_both : (p q : ℕ → Bool) (n : ℕ) → every (λ i. p i && q i) n ≡ (every p n && every q n)
+unfolding every
+every_both p q zero = refl
+every_both p q (suc n) = ap (λ (b : Bool). b && (p n && q n)) (every_both p q n) ∙ swap (every p n) (every q n) (p n) (q n)
+  where
+    swap : (a b c d : Bool) → ((a && b) && (c && d)) ≡ ((a && c) && (b && d))
+    swap true true c d = refl
+    swap true false true d = refl
+    swap true false false d = refl
+    swap false b c d = refl

@@ -20,7 +20,7 @@ abbrev pub orders_at : ℕ
 orders_at = order_count_at + 1
 
 abbrev pub order_width : ℕ
-order_width = 92
+order_width = 93
 
 -- the count of fills; the first fill, and the bytes of each
 abbrev pub fill_count_at : ℕ
@@ -84,6 +84,7 @@ order_in b i =
       alloc_left = word 8 b (at + 66);
       screened = flag_at b (at + 74);
       eligible = flag_at b (at + 75);
+      exclusion = word 1 b (at + 92);
       investor_id = bytes_at 16 b (at + 76);
     }
 

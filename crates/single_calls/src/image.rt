@@ -14,7 +14,7 @@ const ORDER_COUNT_AT: usize = 141;
 
 const ORDERS_AT: usize = ORDER_COUNT_AT + 1;
 
-const ORDER: usize = 92;
+const ORDER: usize = 93;
 
 const FILL_COUNT_AT: usize = ORDERS_AT + ORDER * Session::MAX_ORDERS;
 
@@ -117,6 +117,7 @@ fn order_in(block: &[u8], i: usize) -> Order
         alloc_left: reading::u64_at(block, at + 66),
         screened: reading::flag_at(block, at + 74),
         eligible: reading::flag_at(block, at + 75),
+        exclusion: reading::u8_at(block, at + 92),
         investor_id,
     }
 }

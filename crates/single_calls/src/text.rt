@@ -137,6 +137,7 @@ fn put_order(rt: &impl Output, o: &Order) {
     field(rt, o.alloc_left);
     flag(rt, o.screened);
     flag(rt, o.eligible);
+    field(rt, o.exclusion.into());
     key(rt, &o.investor_id);
 }
 

@@ -12,7 +12,7 @@ returns c =
     let f = c.default-3.ensures in
     let n = c.default.ensures in
     let owner = zeros c.default-2.result.owner 32 o.0 in
-    let investor = zeros c.default-2.result.investor_id 16 o.1.1.1.1.1.1.1.1.1.1 in
+    let investor = zeros c.default-2.result.investor_id 16 o.1.1.1.1.1.1.1.1.1.1.1 in
     let buyer = zeros c.default-3.result.buyer 32 f.0 in
     let seller = zeros c.default-3.result.seller 32 f.1.0 in
     let order : c.default-2.result ≡ empty_order =
@@ -27,6 +27,7 @@ returns c =
       alloc_left = o.1.1.1.1.1.1.1.0 i;
       screened = o.1.1.1.1.1.1.1.1.0 i;
       eligible = o.1.1.1.1.1.1.1.1.1.0 i;
+      exclusion = o.1.1.1.1.1.1.1.1.1.1.0 i;
       investor_id = investor i;
     } in
     let fill : c.default-3.result ≡ empty_fill = λ i. record { buyer = buyer i; seller = seller i; qty = f.1.1.0 i; rofr = f.1.1.1.0 i; settled = f.1.1.1.1 i } in
