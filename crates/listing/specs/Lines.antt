@@ -17,6 +17,10 @@ fields (n ∷ ns) = (space ∷ decimal n) ++ fields ns
 unfoldable pub line : (number : ℕ) (word nums : List ℕ) → List ℕ
 line number word nums = (((decimal number ++ (space ∷ [])) ++ word) ++ fields nums) ++ (newline ∷ [])
 
+-- the same 'without record number'
+abbrev pub bare_line : (word nums : List ℕ) → List ℕ
+bare_line word nums = (word ++ fields nums) ++ (newline ∷ [])
+
 -- the line of an event; and `open`, `order I`, `refused R`, which are no events of the source
 abbrev pub event_line : (number : ℕ) → Event → List ℕ
 event_line number (OrderScreened order exclusion) = line number screen_word (order ∷ exclusion ∷ [])
@@ -53,7 +57,7 @@ record_lines number (e ∷ es) = event_lines number (e ∷ es)
 unfoldable pub end_line : (accepted : Bool) (phase skipped : ℕ) → List ℕ
 end_line accepted phase skipped =
     if accepted
-    then (end_word ++ fields (phase ∷ ones skipped ∷ [])) ++ (newline ∷ [])
+    then bare_line end_word (phase ∷ ones skipped ∷ [])
     else (end_word ++ (space ∷ none_word)) ++ (newline ∷ [])
 
 -- the most letters of a word, and figures of a line

@@ -61,6 +61,26 @@ none_word = 110 ∷ 111 ∷ 110 ∷ 101 ∷ []
 abbrev pub end_word : List ℕ
 end_word = 101 ∷ 110 ∷ 100 ∷ []
 
+-- unrevealed
+abbrev pub unrevealed_word : List ℕ
+unrevealed_word = 117 ∷ 110 ∷ 114 ∷ 101 ∷ 118 ∷ 101 ∷ 97 ∷ 108 ∷ 101 ∷ 100 ∷ []
+
+-- excluded
+abbrev pub excluded_word : List ℕ
+excluded_word = 101 ∷ 120 ∷ 99 ∷ 108 ∷ 117 ∷ 100 ∷ 101 ∷ 100 ∷ []
+
+-- priced
+abbrev pub priced_word : List ℕ
+priced_word = 112 ∷ 114 ∷ 105 ∷ 99 ∷ 101 ∷ 100 ∷ []
+
+-- share
+abbrev pub share_word : List ℕ
+share_word = 115 ∷ 104 ∷ 97 ∷ 114 ∷ 101 ∷ []
+
+-- residue
+abbrev pub residue_word : List ℕ
+residue_word = 114 ∷ 101 ∷ 115 ∷ 105 ∷ 100 ∷ 117 ∷ 101 ∷ []
+
 abbrev pub space : ℕ
 space = 32
 

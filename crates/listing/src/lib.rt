@@ -12,6 +12,8 @@ use events::{Event, MAX_EVENTS};
 use octets::writing::{MAX_DIGITS, put_text};
 use refusals::Refusal;
 
+pub mod causes;
+pub mod claims;
 mod lines;
 
 // The most letters of a word.

@@ -4,7 +4,7 @@ ghost use Rattle.octets.specs.Decimal.{max_digits};
 ghost use Rattle.octets.specs.Puts.{Puts};
 ghost use Rattle.events.specs.declared.Event.TheVariants.{ClearingPrint};
 ghost use Rattle.listing.specs.Words.{newline};
-ghost use Rattle.listing.specs.Lines.{fields, line, said_line, event_line, end_line, max_letters, max_figures, max_line};
+ghost use Rattle.listing.specs.Lines.{fields, line, said_line, event_line, bare_line, end_line, max_letters, max_figures, max_line};
 
 use events::{Event, Print};
 use octets::writing::{put_bytes, put_dec};
@@ -119,6 +119,14 @@ pub(crate) fn put_last(out: &mut [u8], accepted: bool, phase: u8, skipped: u32) 
     if !accepted {
         return put_bytes(out, 0, b"end none\n");
     }
-    let end = put_bytes(out, 0, b"end");
-    put_figures(out, end, &[phase.into(), skipped.count_ones().into()])
+    put_bare(out, b"end", &[phase.into(), skipped.count_ones().into()])
+}
+
+// A line without record number: a word and the figures.
+pub(crate) fn put_bare(out: &mut [u8], word: &[u8], figures: &[u64]) -> usize
+    requires { (length word.now ≤ max_letters) × (length figures.now ≤ max_figures) × (max_line ≤ length out.old) }
+    ensures { Puts (bare_line word.now figures.now) 0 result out.old out.new × (result ≤ max_line) }
+{
+    let end = put_bytes(out, 0, word);
+    put_figures(out, end, figures)
 }

@@ -3,3 +3,4 @@ pub mod Spliced
 pub mod Decimal
 pub mod Fitting
 pub mod Answers
+pub mod Distinct
