@@ -1,6 +1,6 @@
 -- The records of a file are a course: one header, orders, and calls from the session that these open; and a clear with a `clear` line is where
 -- demand 3 starts. Assumes nothing.
-use Rattle.std.proofs.Common.{◌≡◌, ℕ, zero, suc, ◌<◌, ◌≤◌, Bool, true, false, cond, ◌&&◌, eqb, ltb, leb, ◌≢◌, ◌⊎◌, List, [], ◌∷◌, ◌++◌, length, drop, ℤ, sym, refl, ap, ◌∙◌, subst, inl, inr, ⊎_elim, append_assoc, append-nil, arith, ltb-true, eq-eqb, eqb-true, leb-true, None, Option, Some}
+use Rattle.std.proofs.Common.{◌≡◌, ℕ, zero, suc, ◌<◌, ◌≤◌, Bool, true, false, cond, ◌&&◌, eqb, ltb, leb, ◌≢◌, ◌⊎◌, List, [], ◌∷◌, ◌++◌, length, get_or, drop, ℤ, sym, refl, ap, ◌∙◌, subst, inl, inr, ⊎_elim, append_assoc, append-nil, arith, ltb-true, eq-eqb, eqb-true, leb-true, None, Option, Some}
 use mathlib.Core.Bool.{false≢true}
 use Rattle.laws.proofs.Tests.{both}
 use Rattle.book.specs.declared.Row.{Row}
@@ -10,10 +10,11 @@ use Rattle.auction_engine.specs.declared.Session.{Session}
 use Rattle.auction_engine.specs.Session.{fresh}
 use Rattle.auction_engine.specs.declared.Call.{Call}
 use Rattle.auction_engine.specs.declared.Call.TheVariants.{Clear}
+use Rattle.auction_engine.specs.Clearing.{outcome}
 use Rattle.auction_engine.specs.Engine.{refusal, effect, events, answer}
 use Rattle.auction_engine.specs.Opening.{Opening, opened, with_order, with_rows, RowsAccepted, order_refusal}
 use Rattle.auction_engine.proofs.Orders.{accepted_covered}
-use Rattle.course.specs.Demand3.{JustCleared}
+use Rattle.course.specs.Demand3.{JustCleared, lot_of}
 use Rattle.course.specs.Applied.{session_after}
 use Rattle.course.proofs.Applied.{run_is_answers}
 use Rattle.session_file.specs.Marks.{in_place, no_kind, header_kind, order_kind, call_kind}
@@ -21,7 +22,7 @@ use Rattle.session_file.specs.declared.records.Mark.TheVariants.{SI}
 use Rattle.session_file.specs.Fields.{Read, refused, header, order, call, fields_of}
 use Rattle.session_file.specs.Reads.{mark_at, shape_at, record_at, reading_refusal, read_next, reads_from, reads}
 use Rattle.session_file.specs.File.{State, start, file_refusal, made, said_by, said_of}
-use Rattle.session_file.specs.Claims.{before_end, made_all, headers_in, rows_in, calls_in, asked_by, IsCourse, FileIsCourse, ClearedInFile, HeaderAsks, OnlySIAsks, CoveredInFile}
+use Rattle.session_file.specs.Claims.{before_end, made_all, headers_in, rows_in, calls_in, asked_by, IsCourse, FileIsCourse, StartsDemand3, ClearedInFile, HeaderAsks, OnlySIAsks, CoveredInFile}
 use Rattle.session_file.proofs.Headers.{cover_read, unasked_read}
 use Rattle.session_file.proofs.Reading.{kind_read, passed, read_whole, read_kind}
 
@@ -269,16 +270,44 @@ cleared_from l f o now price volume reserve reference others q =
       is = answer_accepted f.session (Clear now) a.0 ∙ ap (λ (s : Session). effect s (Clear now)) o.session_is;
     }
 
-pub cleared_in_file : ClearedInFile
-cleared_in_file s l k now price volume reserve reference others e q =
-    let f : State = made_all start l in
-    let x : Read = call (Clear now) in
-    let z : file_refusal f x ≡ 0 = next_accepted start l x k (file_accepted s l (x ∷ k) e) in
-    let v : InOrder call_kind k = rest_in_order no_kind l x k (file_in_order s l (x ∷ k) e) in
+-- with the price of the line, and the lots that the clear found
+pub record ClearedCourse (f : State) (now : ℤ) (price : ℕ) : Type 0 where
+  pub just_cleared : JustCleared (made f (call (Clear now))).session
+  pub price_is : just_cleared.price ≡ price
+  pub lot_is : (i : ℕ) → lot_of just_cleared i ≡ get_or (outcome f.session).lots i 0
+
+pub cleared_course : (l : List Read) (f : State) → IsCourse l f → (now : ℤ) (price volume reserve reference : ℕ) (others : List Event)
+    → said_by f (call (Clear now)) ≡ Cleared price volume reserve reference ∷ others → ClearedCourse f now price
+unfolding cleared_from
+cleared_course l f o now price volume reserve reference others q =
     record {
-      just_cleared = cleared_from l f (before_call s l k (Clear now) e) now price volume reserve reference others (sym (said_on f x z) ∙ q);
-      calls_after = λ m n h. (only_calls (made f x) m (first_in_order call_kind m n (subst (InOrder call_kind) h v))).session_is ∙ sym (run_is_answers (made f x).session (calls_in m));
+      just_cleared = cleared_from l f o now price volume reserve reference others q;
+      price_is = refl;
+      lot_is = λ i. ap (λ (s : Session). get_or (outcome s).lots i 0) (sym o.session_is);
     }
+
+module _ (s : List ℕ) (l k : List Read) (now : ℤ) (price volume reserve reference : ℕ) (others : List Event)
+    (e : before_end start (reads s) ≡ l ++ (call (Clear now) ∷ k))
+    (q : said_of (made_all start l) (call (Clear now)) ≡ Cleared price volume reserve reference ∷ others) where
+  goes_on : file_refusal (made_all start l) (call (Clear now)) ≡ 0
+  goes_on = next_accepted start l (call (Clear now)) k (file_accepted s l (call (Clear now) ∷ k) e)
+
+  pub course_at_clear : ClearedCourse (made_all start l) now price
+  course_at_clear =
+      cleared_course l (made_all start l) (before_call s l k (Clear now) e) now price volume reserve reference others
+      (sym (said_on (made_all start l) (call (Clear now)) goes_on) ∙ q)
+
+  pub calls_from_clear : StartsDemand3 (made (made_all start l) (call (Clear now))) k
+  calls_from_clear =
+      let f : State = made (made_all start l) (call (Clear now)) in
+      let v : InOrder call_kind k = rest_in_order no_kind l (call (Clear now)) k (file_in_order s l (call (Clear now) ∷ k) e) in
+      record {
+        just_cleared = course_at_clear.just_cleared;
+        calls_after = λ m n h. (only_calls f m (first_in_order call_kind m n (subst (InOrder call_kind) h v))).session_is ∙ sym (run_is_answers f.session (calls_in m));
+      }
+
+pub cleared_in_file : ClearedInFile
+cleared_in_file s l k now price volume reserve reference others e q = calls_from_clear s l k now price volume reserve reference others e q
 
 -- ---- cover
 pub header_asks : HeaderAsks

@@ -64,11 +64,11 @@ entry_err s e r a = go (leb (length s) max_input) (leb (length (listing s)) (len
     go false fits a = let q : r ≡ InputTooLong = cc in rw q (omega arith, ((λ z. omega arith), refl))
 
 -- a byte negated, as the code does it
-minus : (n : ℕ) → n < 256 → n ≢ 0 → pos 0 -ℤ to_z w64 n ≡ negsuc (n - 1)
+pub minus : (n : ℕ) → n < 256 → n ≢ 0 → pos 0 -ℤ to_z w64 n ≡ negsuc (n - 1)
 minus zero h z = absurd (z refl)
 minus (suc n) h z = rw (to_z_pos w64 {n = suc n} (omega arith), lt-ltb 0 (suc n) (omega arith))
 
-minus_fits : (n : ℕ) → n < 256 → SFits w64 (pos 0 -ℤ to_z w64 n)
+pub minus_fits : (n : ℕ) → n < 256 → SFits w64 (pos 0 -ℤ to_z w64 n)
 minus_fits zero h = record { sfits = omega arith }
 minus_fits (suc n) h = rw (minus (suc n) h (omega arith)) (record { sfits = omega arith })
 

@@ -8,5 +8,7 @@ pub mod Lent
 pub mod Running
 pub mod PartByPart
 pub mod Entry
+pub mod Ended
 pub mod Course
 pub mod Refusals
+pub mod Endings

@@ -65,7 +65,7 @@ module _ (s : List ℕ) (p : Place) (x : Session) (h : p.at < length s) where
   abbrev r : Read
   r = read_next p.stage rest
 
-  some : 0 < length rest
+  pub some : 0 < length rest
   some = rw length-drop (omega arith)
 
   -- the record goes on, or ends the file
@@ -82,7 +82,7 @@ module _ (s : List ℕ) (p : Place) (x : Session) (h : p.at < length s) where
       (λ z. rw (ne_eqb (file_refusal f r) 0 z) (record { on = h; within = omega arith }))
 
   -- the state after a record that goes on
-  after_is : file_refusal f r ≡ 0 → made f r ≡ state (shape_at rest).kind (made f r).cover (made f r).session
+  pub after_is : file_refusal f r ≡ 0 → made f r ≡ state (shape_at rest).kind (made f r).cover (made f r).session
   after_is z =
       let g = read_whole p.stage rest f z in
       let k = read_kind p.stage rest g in

@@ -41,7 +41,7 @@ same_number : (a n : ℕ) (l : List ℕ) → Member a l → Refused a ∷ [] ≡
 same_number a n l m q = let e : a ≡ n = cc in subst (λ (x : ℕ). Member x l) e m
 
 -- 'Each record'
-abbrev each_record : List ℕ
+abbrev pub each_record : List ℕ
 each_record = 1 ∷ 2 ∷ 3 ∷ 4 ∷ []
 
 flags_in_lem : (rec flags : List ℕ) → Member (flags_refusal rec flags) (0 ∷ each_record)
@@ -64,7 +64,7 @@ decimals_in l h None = inl refl
 decimals_in l h (Some decimals) = last l 4 _ h
 
 -- `SH`, `SI`
-header_in : (cover : Option ℕ) (p : Params) (g : Given) (asked : Option ℕ) → Member (header_refusal p g asked) (0 ∷ place_numbers cover (header p g asked))
+pub header_in : (cover : Option ℕ) (p : Params) (g : Given) (asked : Option ℕ) → Member (header_refusal p g asked) (0 ∷ place_numbers cover (header p g asked))
 unfolding header_refusal has
 header_in cover p g asked =
     let l : List ℕ = place_numbers cover (header p g asked) in
@@ -95,7 +95,7 @@ unfolding has
 has_place None = (refl, refl)
 has_place (Some decimals) = (refl, refl)
 
-order_in_lem : (s : Session) (cover : Option ℕ) (row : Row) → Member (order_refusal s cover row) (0 ∷ order_numbers cover)
+pub order_in_lem : (s : Session) (cover : Option ℕ) (row : Row) → Member (order_refusal s cover row) (0 ∷ order_numbers cover)
 unfolding order_refusal
 order_in_lem s cover row =
     let l : List ℕ = order_numbers cover in
@@ -103,13 +103,13 @@ order_in_lem s cover row =
     then_in l (row_refusal cover row) _ (row_in cover row) (check l 7 _ _ h.0 (last l 8 _ h.1))
 
 -- ---- a refusal of reading is of 'Each record'
-abbrev Known : Read → Type 0
+abbrev pub Known : Read → Type 0
 Known (refused n) = Member n each_record
 Known (header p g cover) = Unit
 Known (order row) = Unit
 Known (call c) = Unit
 
-abbrev AllKnown : List Read → Type 0
+abbrev pub AllKnown : List Read → Type 0
 AllKnown [] = Unit
 AllKnown (x ∷ l) = Known x × AllKnown l
 
@@ -130,7 +130,7 @@ next_known before rest = go (eqb (reading_refusal before rest) 0) refl
         let d : reading_refusal before rest ≢ 0 = eqb-false (reading_refusal before rest) 0 e in
         subst Known (sym (read_bad before rest d)) (other_than_zero (reading_refusal before rest) each_record d (reading_in before rest))
 
-reads_known : (n before : ℕ) (rest : List ℕ) → AllKnown (reads_from n before rest)
+pub reads_known : (n before : ℕ) (rest : List ℕ) → AllKnown (reads_from n before rest)
 unfolding reads_from
 reads_known zero before rest = tt
 reads_known (suc n) before rest =

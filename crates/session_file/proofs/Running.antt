@@ -3,6 +3,7 @@
 use Rattle.std.proofs.Common.{◌≡◌, ℕ, zero, suc, ◌+◌, ◌-◌, ◌<◌, ◌≤◌, List, [], ◌++◌, length, take, drop, sym, refl, ap, ◌∙◌, append_assoc, arith, length-append, length-drop, le-leb}
 use borrow.Author.Tests.{lt-leb}
 use Rattle.std.specs.Prelude.{Result, Ok, Err, IsErrAnd}
+use Rattle.laws.proofs.Checking.{refused_as}
 use Rattle.refusals.specs.declared.Refusal.{Refusal}
 use Rattle.refusals.specs.declared.Refusal.TheVariants.{OutputTooSmall}
 use Rattle.listing.specs.Lines.{record_lines}
@@ -54,8 +55,7 @@ running_start s e x p h is at_first = rw (is, at_first) (record {
 
 -- an answer that `?` passes on
 pub passed_on : (r : Result ℕ Refusal) {w : Result ℕ Refusal} {x : Refusal} → w ≡ Err x → IsErrAnd r (λ e. e ≡ x) → r ≡ w
-passed_on (Ok n) e h = absurd h
-passed_on (Err y) e h = ap Err h ∙ sym e
+passed_on r e h = refused_as r h ∙ sym e
 
 -- ---- an output with the listing, and one that is too short for it
 ran_fits : (s e e' : List ℕ) (n : ℕ) → n ≤ length e → length e' ≡ length e → Puts (listing s) 0 n e e' → Ran s (Ok n) e e'

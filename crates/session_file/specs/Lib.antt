@@ -4,6 +4,7 @@ pub mod Fields
 pub mod Reads
 pub mod File
 pub mod Entry
+pub mod Ended
 pub mod Claims
 pub mod Steps
 pub mod Parts

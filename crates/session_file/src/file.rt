@@ -68,7 +68,7 @@ pub(crate) fn put_record(
 
 // The same, but what ends the file is answered, and then nothing is changed.
 #[tactic(auto, using(auction_engine::proofs::Steps::numbered), unfolding(crate::specs::File::file_refusal))]
-fn put_read(
+pub(crate) fn put_read(
     input: &[u8],
     place: &mut Place,
     session: &mut Session,

@@ -4,8 +4,10 @@
 ghost use Rattle.std.specs.Prelude.{◌≤◌, length};
 ghost use Rattle.session_file.specs.File.{max_input};
 ghost use Rattle.session_file.specs.Entry.{Listed, Entered};
+ghost use Rattle.session_file.specs.Ended.{Ended};
 ghost use Rattle.session_file.specs.Steps.{Ran};
 
+use auction_engine::Session;
 use refusals::Refusal;
 
 mod calls;
@@ -44,6 +46,25 @@ pub extern "C" fn clear_session_file(input: &[u8], out: &mut [u8]) -> i64
         Ok(len) => len as i64,
         Err(refusal) => -(refusal.number() as i64),
     }
+}
+
+// The session that a file ends with; or 26, the refusal that ends the file, or 1 where it has no record.
+pub fn session_of(input: &[u8]) -> Result<Session, Refusal>
+    ensures { Ended input.now result }
+{
+    if MAX_INPUT < input.len() {
+        return Err(Refusal::InputTooLong);
+    }
+    let mut session = file::unopened();
+    let mut place = file::first_place();
+    while place.at < input.len() {
+        // Its lines are put nowhere.
+        let _ = file::put_read(input, &mut place, &mut session, 0, &mut [])?;
+    }
+    if place.stage == records::NO_KIND {
+        return Err(Refusal::NoRecord);
+    }
+    Ok(session)
 }
 
 // The records in turn, each record's lines in the part after those already there.
