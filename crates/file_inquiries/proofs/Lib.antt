@@ -1,0 +1,3 @@
+-- Laws of the questions of a file.
+pub mod Asking
+pub mod Theorems

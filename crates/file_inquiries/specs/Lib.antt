@@ -1,0 +1,3 @@
+-- Questions that a host asks of a session file.
+pub mod Entry
+pub mod Claims

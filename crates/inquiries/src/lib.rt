@@ -1,0 +1,5 @@
+// Questions on a session, which they leave as it is.
+#![tactic(auto)]
+
+pub mod claims;
+pub mod why;
