@@ -1,13 +1,15 @@
 /* How much stack a call needs: the smallest thread on which it runs, found by trying smaller and smaller ones until one crashes.
 
-     harness/run library session_file && harness/run library order_slices && harness/run library fills
-     cc -O2 -pthread -Iinclude harness/c/stack.c -Ltarget/staticlib -lsession_file -lorder_slices -lfills -o target/stack
+     for name in session_file file_inquiries order_slices fills; do harness/run library $name; done
+     cc -O2 -pthread -Iinclude harness/c/stack.c -Ltarget/staticlib -lsession_file -lfile_inquiries -lorder_slices -lfills -o target/stack
      target/stack [FILE...]
 
-   It calls the price search and pro-rata on 16 records and the number of fills on 16 lots, then clears a session of its own (16 orders, 24
-   fills, every kind of call) and each FILE. A thread's stack also holds what the C library keeps for the thread: the first line is a
-   thread that does nothing. The numbers in include/ are from this program, with a margin. */
+   It calls the price search and pro-rata on 16 records and the number of fills on 16 lots, asks of a session of its own (16 orders, just
+   cleared) why an order with a unit of the residue got its lot, then clears another (16 orders, 24 fills, every kind of call) and each FILE.
+   A thread's stack also holds what the C library keeps for the thread: the first line is a thread that does nothing. The numbers in
+   include/ are from this program, with a margin. */
 #define _GNU_SOURCE
+#include "file_inquiries.h"
 #include "fills.h"
 #include "order_slices.h"
 #include "session_file.h"
@@ -39,18 +41,31 @@ static void mark(const char *letters) {
     file[file_len++] = (uint8_t)letters[1];
 }
 
-/* Eight buys of 3 against sells of 1, 3, 3, 3, 3, 3, 3, 5 make 15 fills; nine purchases of the issuer's make 24. */
-static void full_session(void) {
-    enum { BUYS = 8, ORDERS = 16, PAIRED = 15, FILLS = 24, ISSUER = 99 };
+enum { ORDERS = 16, ISSUER = 99 };
+
+/* A header, orders of so many buys and then sells of those quantities, their screens, and the clear. */
+static void cleared_session(unsigned buys, unsigned (*qty)(unsigned)) {
+    file_len = 0;
     mark("SH"), number(100, 8), number(50, 8), number(200, 8), number(1000, 8), number(2, 1), number(0, 1), bytes(ISSUER, 32);
     number(1, 1), number(9, 8), number(10, 8), number(1, 1), number(2500, 8);
-    for (unsigned i = 0; i < ORDERS; i++) {
-        unsigned qty = i == BUYS ? 1 : i == ORDERS - 1 ? 5 : 3;
-        mark("OR"), bytes((uint8_t)(i + 1), 32), number(i >= BUYS, 1), number(60, 8), number(1, 1), number(10, 8), number(qty, 8);
-    }
     for (unsigned i = 0; i < ORDERS; i++)
-        mark("SC"), number(120, 8), number(i, 1), number(i >= BUYS, 1), number(0, 1), number(1, 1), bytes((uint8_t)(i + 1), 16);
+        mark("OR"), bytes((uint8_t)(i + 1), 32), number(i >= buys, 1), number(60, 8), number(1, 1), number(10, 8), number(qty(i), 8);
+    for (unsigned i = 0; i < ORDERS; i++)
+        mark("SC"), number(120, 8), number(i, 1), number(i >= buys, 1), number(0, 1), number(1, 1), bytes((uint8_t)(i + 1), 16);
     mark("CL"), number(120, 8);
+}
+
+/* Fifteen buys of 2 share a sell of 29: a share of 1 each, and a unit to all but the last. */
+static unsigned uneven(unsigned i) { return i == ORDERS - 1 ? 29 : 2; }
+
+static void uneven_session(void) { cleared_session(ORDERS - 1, uneven); }
+
+/* Eight buys of 3 against sells of 1, 3, 3, 3, 3, 3, 3, 5 make 15 fills; nine purchases of the issuer's make 24. */
+static unsigned even(unsigned i) { return i == ORDERS / 2 ? 1 : i == ORDERS - 1 ? 5 : 3; }
+
+static void full_session(void) {
+    enum { PAIRED = 15, FILLS = 24 };
+    cleared_session(ORDERS / 2, even);
     mark("AL"), number(120, 8), number(255, 1);
     for (unsigned i = PAIRED; i <= FILLS; i++) /* the last one is refused: no place is left */
         mark("RX"), number(120, 8), bytes(ISSUER, 32), number(i - PAIRED, 4), number(1, 8);
@@ -72,6 +87,12 @@ static void *clearing_own(void *unused) {
     static const char last[] = "end 5 1\n";
     int64_t length = clear_session_file(file, file_len, output, sizeof output);
     return length > 8 && memcmp(output + length - 8, last, 8) == 0 ? unused : file;
+}
+
+static void *asking(void *unused) {
+    static const char line[] = "residue 13 2 14\n";
+    int64_t length = why_in_session_file(file, file_len, 13, output, sizeof output);
+    return length == sizeof line - 1 && memcmp(output, line, sizeof line - 1) == 0 ? unused : file;
 }
 
 static void *searching(void *unused) {
@@ -134,6 +155,8 @@ int main(int argc, char **argv) {
     measure("find_uniform_clear_price", searching);
     measure("allocate_pro_rata", sharing);
     measure("fill_count", counting);
+    uneven_session();
+    measure("why_in_session_file", asking);
     full_session();
     measure("clear_session_file", clearing_own);
     for (int i = 1; i < argc; i++) {

@@ -4,7 +4,7 @@ use oracle::{MAX_FILLS, MAX_ORDERS};
 
 const HEADER: usize = 92;
 const FIGURES: usize = 49;
-const ORDER: usize = 92;
+const ORDER: usize = 93;
 const FILL: usize = 74;
 const CALL: usize = 75;
 
@@ -22,10 +22,10 @@ pub fn block(case: &Case) -> Vec<u8> {
     b.extend(case.skipped.to_le_bytes());
     b.push(case.orders.len() as u8);
     case.orders.iter().take(MAX_ORDERS).for_each(|o| order(&mut b, o));
-    b.resize(FILLS, 0);
+    b.resize(FILLS, case.past);
     b.push(case.fills.len() as u8);
     case.fills.iter().take(MAX_FILLS).for_each(|f| fill(&mut b, f));
-    b.resize(END, 0);
+    b.resize(END, case.past);
     call(&mut b, &case.call);
     assert_eq!(b.len(), END + CALL);
     b
@@ -51,6 +51,7 @@ fn order(b: &mut Vec<u8>, o: &Order) {
     [o.limit, o.qty, o.alloc, o.alloc_left].iter().for_each(|x| b.extend(x.to_le_bytes()));
     b.extend([u8::from(o.screened), u8::from(o.eligible)]);
     b.extend(bytes::<16>(o.id));
+    b.push(o.exclusion);
 }
 
 fn fill(b: &mut Vec<u8>, f: &Fill) {

@@ -11,6 +11,8 @@ pub struct Order {
     pub alloc_left: u64,
     pub screened: bool,
     pub eligible: bool,
+    /// Its exclusion kind.
+    pub exclusion: u8,
     pub id: u8,
 }
 
@@ -63,7 +65,16 @@ pub struct Case {
     pub skipped: u32,
     pub orders: Vec<Order>,
     pub fills: Vec<Fill>,
+    /// What every byte of the places past the two counts holds: no call may heed it.
+    pub past: u8,
     pub call: Call,
+}
+
+impl Order {
+    /// Screened, and taking no part.
+    pub fn is_excluded(&self) -> bool {
+        self.screened && !self.eligible
+    }
 }
 
 impl Call {

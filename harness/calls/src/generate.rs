@@ -1,5 +1,6 @@
 //! Random cases. Most let their call in; the rest are turned away, each in some way.
 use crate::case::{Call, Case, Fill, Header, Order, MARKS};
+use crate::exclusions;
 use crate::numbers::{count, price, qty, time};
 use oracle::random::Random;
 use oracle::{MAX_FILLS, MAX_ORDERS};
@@ -22,12 +23,14 @@ pub fn case(r: &mut Random) -> Case {
     if kind == SCREEN && !r.one_in(4) {
         make_screenable(&mut orders, call.order);
     }
+    exclusions::set(r, &mut orders);
     let bits = if r.one_in(4) { u32::MAX } else { 0x00ff_ffff };
     Case {
         phase: phase(r, kind),
         figures: [price(r), qty(r), price(r), price(r), qty(r)],
         fills_settled: if r.one_in(8) { u32::MAX - r.below(2) as u32 } else { r.below(9) as u32 },
         skipped: if r.one_in(2) { 0 } else { r.word() as u32 & bits },
+        past: r.pick(&[0, 0, 1, 255]),
         call,
         header,
         orders,
@@ -35,12 +38,13 @@ pub fn case(r: &mut Random) -> Case {
     }
 }
 
-/// One of the nine calls, or at times a number that is none, up to the highest.
+/// One of the nine calls, the screen more often since most are refused; or at times a number that is none, up to the highest.
 fn kind(r: &mut Random) -> u8 {
     let calls = MARKS.len() as u64;
     match r.below(12) {
         0 => (calls + r.below(256 - calls)) as u8,
         1 => r.pick(&[MARKS.len() as u8, u8::MAX]),
+        2 => SCREEN,
         _ => r.below(calls) as u8,
     }
 }
@@ -75,6 +79,7 @@ fn order(r: &mut Random, kind: u8, wide: bool) -> Order {
         alloc_left: if r.one_in(2) { alloc } else { r.below(4) },
         screened: !r.one_in(if kind == SCREEN { 2 } else { 30 }),
         eligible: !r.one_in(4),
+        exclusion: 0,
         id: r.below(4) as u8,
     }
 }

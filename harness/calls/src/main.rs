@@ -5,6 +5,7 @@
 mod args;
 mod block;
 mod case;
+mod exclusions;
 mod generate;
 mod numbers;
 mod words;
@@ -55,6 +56,9 @@ fn same(cases: &[Case], source: &[String], ours: &[String]) -> bool {
     for (i, case) in cases.iter().enumerate() {
         let refusal = source[i].split('|').next().expect("a refusal");
         *seen.entry(format!("{} {refusal:>2}", case.call.mark())).or_insert(0u64) += 1;
+        if let Some(fault) = case.orders.iter().find_map(exclusions::fault) {
+            *seen.entry(format!("{refusal:>2} with {fault}")).or_insert(0) += 1;
+        }
         if ours.get(i) != Some(&source[i]) {
             different += 1;
             if different <= 3 {

@@ -30,7 +30,7 @@ fn header(h: &Header) -> String {
 fn order(o: &Order) -> String {
     let mut words = format!(" {} {} {} {}", hex::<32>(o.owner), o.side, o.escrowed, bit(o.revealed));
     words += &format!(" {} {} {} {}", o.limit, o.qty, o.alloc, o.alloc_left);
-    words + &format!(" {} {} {}", bit(o.screened), bit(o.eligible), hex::<16>(o.id))
+    words + &format!(" {} {} {} {}", bit(o.screened), bit(o.eligible), o.exclusion, hex::<16>(o.id))
 }
 
 fn fill(f: &Fill) -> String {

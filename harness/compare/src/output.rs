@@ -1,4 +1,5 @@
-//! An output to lend, every byte of it marked beforehand, between guard bytes.
+//! An output to lend, every byte of it marked beforehand, between guard bytes. Also for `functions`, which includes this file.
+#![allow(dead_code)] // each program uses a part
 
 const GUARD: usize = 64;
 

@@ -33,7 +33,7 @@ pub fn compare(r: &mut Random, count: u64) -> u64 {
 
 /// Books are made until one clears.
 fn cleared(r: &mut Random) -> State {
-    std::iter::repeat_with(|| generate::cleared(r)).flatten().next().expect("an endless row")
+    std::iter::repeat_with(|| generate::cleared(r, 0)).flatten().next().expect("an endless row").1
 }
 
 /// Cranks of any allowances until the matching is complete.

@@ -1,11 +1,14 @@
 //! `functions [--seed S] [--cases N]`: the price search and pro-rata through the published source and through ours, on parallel slices
 //! and on records, one answer after the other; and as many tests of an order's cover, tables of side totals, shares with their
 //! remainders, and numbers of fills. Then a third as many sessions that the source cleared: its cranks must make the number of fills
-//! that ours gave.
+//! that ours gave. And as many session files, most of a session that just cleared: why each order got its lot.
 mod case;
+mod causes;
 mod cover;
 mod cranks;
 mod fills;
+#[path = "../../compare/src/output.rs"]
+mod output;
 mod records;
 mod shares;
 mod slices;
@@ -40,7 +43,9 @@ fn main() -> ExitCode {
     let sessions = count / 3;
     let unlike = cranks::compare(&mut Random(seed), sessions);
     println!("{sessions} cleared sessions, {unlike} different");
-    ExitCode::from(u8::from(different + wrong + bad + uneven + miscounted + unlike != 0 || !refused))
+    let [questions, untrue] = causes::compare(&mut Random(seed), sessions);
+    println!("{questions} causes of lots asked on {sessions} files, {untrue} different");
+    ExitCode::from(u8::from(different + wrong + bad + uneven + miscounted + unlike + untrue != 0 || !refused))
 }
 
 /// Shows how often each kind of answer was seen and the first differences.

@@ -1,4 +1,5 @@
-//! The proved libraries for a host in Rust: session files; the price search and pro-rata on records; and the number of fills from the lots.
+//! The proved libraries for a host in Rust: session files; why an order of a session file got its lot; the price search and pro-rata on
+//! records; and the number of fills from the lots.
 //!
 //! A session file goes in, its listing comes out; `docs/SESSION-FILE.md` describes both. A file that is turned away has a listing too,
 //! which says at which record and why.
@@ -9,16 +10,18 @@
 //! assert_eq!(listing, b"0 refused 2\nend none\n");
 //! ```
 //!
-//! The static libraries are made by `harness/run library NAME`, with `session_file`, `order_slices` and `fills`.
+//! The static libraries are made by `harness/run library NAME`, with `session_file`, `file_inquiries`, `order_slices` and `fills`.
 mod allocation;
 mod entry;
 mod fills;
 mod refusal;
+mod why;
 
 pub use allocation::{allocate_pro_rata, allocate_pro_rata_into, find_uniform_clear_price, Bid, Cross, Figures, Order};
 pub use entry::clear_session_file;
 pub use fills::fill_count;
 pub use refusal::Refusal;
+pub use why::{why, why_in_session_file, why_into, Cause};
 
 /// The longest file, in bytes.
 pub const MAX_FILE: usize = 65_536;

@@ -1,6 +1,11 @@
 //! The edges of the library's answers.
-use host::{allocate_pro_rata_into, fill_count, find_uniform_clear_price, listing, listing_into, Bid, Order, Refusal, MAX_FILE};
+use host::{allocate_pro_rata_into, fill_count, find_uniform_clear_price, listing, listing_into, why, why_into};
+use host::{Bid, Cause, Order, Refusal, MAX_FILE};
 use std::{fs, path::Path};
+
+fn case_l() -> Vec<u8> {
+    fs::read(Path::new(env!("CARGO_MANIFEST_DIR")).join("../../examples/case-l.session")).unwrap()
+}
 
 #[test]
 fn no_file_above_the_limit() {
@@ -20,7 +25,7 @@ fn lent_outputs() {
 /// A refused settle's line is almost three times as long as its record, so the listing outgrows the first output.
 #[test]
 fn the_output_grows() {
-    let mut file = fs::read(Path::new(env!("CARGO_MANIFEST_DIR")).join("../../examples/case-l.session")).unwrap();
+    let mut file = case_l();
     while file.len() + 6 <= MAX_FILE {
         file.extend(b"ST\xff\xff\xff\xff");
     }
@@ -88,4 +93,34 @@ fn sums_past_64_bits() {
     assert_eq!(fill_count(&[MAX, 1, 2, MAX, 1], &[0, 0, 0, 1, 1]), Ok(3));
     assert_eq!(fill_count(&[MAX, 3, 2], &[0, 0, 1]), Ok(3));
     assert_eq!(fill_count(&[MAX; 16], &[0, 0, 0, 0, 0, 0, 0, 0, 1, 1, 1, 1, 1, 1, 1, 1]), Ok(8));
+}
+
+/// Case L up to its clear: a header, four orders, four screens, a clear.
+#[test]
+fn why_in_case_l() {
+    let file = case_l();
+    let causes = [Cause::Residue { lot: 5, turn: 1 }, Cause::Share(2), Cause::Share(4), Cause::Share(3)];
+    assert_eq!([0, 1, 2, 3].map(|order| why(&file[..464], order)), causes.map(Ok));
+    assert_eq!([4, 16, 256, 1 << 32, u64::MAX].map(|order| why(&file[..464], order)), [Err(Refusal::NoOrder); 5]);
+    // Before the clear, within it, and after the last crank.
+    assert_eq!([454, 463, file.len()].map(|at| why(&file[..at], 0).unwrap_err().number()), [10, 1, 10]);
+}
+
+#[test]
+fn why_without_a_session() {
+    assert_eq!([&b""[..], b"S", b"SX", b"OR"].map(|file| why(file, 0).unwrap_err().number()), [1, 1, 2, 3]);
+    assert_eq!([MAX_FILE, MAX_FILE + 1].map(|length| why(&vec![0; length], 0).unwrap_err().number()), [2, 26]);
+}
+
+/// No refusal touches the output.
+#[test]
+fn lent_lines() {
+    let file = &case_l()[..464];
+    let mut output = [7; 16];
+    assert_eq!(why_into(file, 0, &mut output[..13]), Err(Refusal::OutputTooSmall));
+    assert_eq!(why_into(file, 4, &mut output[..0]), Err(Refusal::NoOrder));
+    assert_eq!(why_into(&file[..454], 0, &mut output), Err(Refusal::WrongPhase));
+    assert_eq!(output, [7; 16]);
+    assert_eq!(why_into(file, 0, &mut output), Ok(14));
+    assert_eq!(&output, b"residue 0 5 1\n\x07\x07");
 }

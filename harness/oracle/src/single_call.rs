@@ -1,11 +1,13 @@
 //! One call on any session at all, also on those that no file leads to: a line of words asks, a line answers.
 //!
 //! The words: the header's 12 (as in `SH`, keys in hex), phase, clear_price, cleared_volume, reserve_price, reference_mark, rofr_qty,
-//! fills_settled, skipped_fills, the number of orders, of each order 11 (owner side escrowed revealed limit qty alloc alloc_left
-//! screened eligible id), the number of fills, of each fill 5 (buyer seller qty rofr settled), then the record's mark and fields, or `--`
-//! and the kind of a call that no record has.
+//! fills_settled, skipped_fills, the number of orders, of each order 12 (owner side escrowed revealed limit qty alloc alloc_left
+//! screened eligible exclusion id), the number of fills, of each fill 5 (buyer seller qty rofr settled), then the record's mark and fields,
+//! or `--` and the kind of a call that no record has.
 //!
 //! The answer: the refusal, `|`, the lines joined with `;`, `|`, the session from its phase on in the same words.
+//!
+//! The source's session keeps no exclusions: they stand beside it here, and an accepted screen sets its order's to that of its event.
 use crate::engine::{self, Answer, State};
 use crate::record::{Call, Header, Order};
 use anchor_lang::prelude::Pubkey;
@@ -16,7 +18,7 @@ pub fn answer(line: &str) -> String {
     let mut words = Words { rest: line.split_ascii_whitespace(), outside: false };
     let mut state = header(&mut words);
     figures(&mut words, &mut state.session);
-    orders(&mut words, &mut state.session);
+    let mut exclusions = orders(&mut words, &mut state.session);
     fills(&mut words, &mut state.session);
     let call = call(&mut words);
     if engine::is_over_a_limit(&state) {
@@ -27,8 +29,11 @@ pub fn answer(line: &str) -> String {
         return "4||".to_string();
     };
     match engine::run(&mut state, &call) {
-        Answer::Done(lines) => format!("0|{}|{}", lines.join(";"), words_of(&state.session)),
-        Answer::Refused(number) => format!("{number}||{}", words_of(&state.session)),
+        Answer::Done(lines) => {
+            engine::note_screens(&lines, &mut exclusions);
+            format!("0|{}|{}", lines.join(";"), words_of(&state.session, &exclusions))
+        }
+        Answer::Refused(number) => format!("{number}||{}", words_of(&state.session, &exclusions)),
         Answer::Trapped => "PANIC||".to_string(),
     }
 }
@@ -92,7 +97,9 @@ fn figures(w: &mut Words, s: &mut Session) {
     s.skipped_fills = w.number();
 }
 
-fn orders(w: &mut Words, s: &mut Session) {
+/// The exclusion kinds are handed back.
+fn orders(w: &mut Words, s: &mut Session) -> Vec<u8> {
+    let mut exclusions = Vec::new();
     for _ in 0..w.number::<usize>() {
         let mut order = engine::order(&Order {
             owner: w.hex(),
@@ -104,6 +111,7 @@ fn orders(w: &mut Words, s: &mut Session) {
         });
         (order.alloc, order.alloc_left) = (w.number(), w.number());
         (order.screened, order.eligible) = (w.number::<u8>() == 1, w.number::<u8>() == 1);
+        exclusions.push(exclusion(w, &order));
         s.orders.push(order);
         s.investor_ids.push(w.hex());
     }
@@ -111,6 +119,14 @@ fn orders(w: &mut Words, s: &mut Session) {
     while s.investor_ids.last() == Some(&[0; 16]) {
         s.investor_ids.pop();
     }
+    exclusions
+}
+
+/// 1 to 8 of an excluded order, 0 of any other. Another number is a field outside its values.
+fn exclusion(w: &mut Words, order: &auction_engine::Order) -> u8 {
+    let kind = w.at_most(8);
+    w.outside |= (kind != 0) != (order.screened && !order.eligible);
+    kind
 }
 
 fn fills(w: &mut Words, s: &mut Session) {
@@ -149,14 +165,14 @@ fn screen(w: &mut Words) -> Call {
     Call::Screen { now, order, side, verdict, id: has_id.then_some(id) }
 }
 
-fn words_of(s: &Session) -> String {
+fn words_of(s: &Session, exclusions: &[u8]) -> String {
     let (settled, skipped) = (s.fills_settled, s.skipped_fills);
     let mut text = format!("{} {} {} {}", s.phase as u8, s.clear_price, s.cleared_volume, s.reserve_price);
     text += &format!(" {} {} {settled} {skipped} {}", s.reference_mark, s.rofr_qty, s.orders.len());
     for (i, o) in s.orders.iter().enumerate() {
         let (revealed, screened, eligible) = (u8::from(o.revealed), u8::from(o.screened), u8::from(o.eligible));
         text += &format!(" {} {} {} {revealed} {} {}", hex(&o.owner.0), o.side as u8, o.escrowed, o.limit, o.qty);
-        text += &format!(" {} {} {screened} {eligible}", o.alloc, o.alloc_left);
+        text += &format!(" {} {} {screened} {eligible} {}", o.alloc, o.alloc_left, exclusions[i]);
         text += &format!(" {}", hex(s.investor_ids.get(i).unwrap_or(&[0; 16])));
     }
     text += &format!(" {}", s.fills.len());

@@ -22,6 +22,12 @@ pub mod reach {
         super::investor_exclusion(session, index, id)
     }
 
+    /// Price, volume and each order's lot, unless the session fails.
+    pub fn compute_clear(session: &Session, feed: &Feed, now: i64) -> Result<Option<(u64, u64, Vec<u64>)>> {
+        let outcome = super::compute_clear(session, feed, now)?;
+        Ok(outcome.ok().map(|c| (c.price, c.volume, c.allocations)))
+    }
+
     pub fn band(price: u64, band_bps: u64) -> u64 {
         super::band(price, band_bps)
     }

@@ -13,7 +13,7 @@ use mark_engine::{Feed, FeedParams};
 use std::panic::{catch_unwind, AssertUnwindSafe};
 
 pub use numbers::{phase_of, policy_of};
-pub use words::digest;
+pub use words::{digest, note_screens};
 
 /// The published session, and the stand-in of the mark that it prices against.
 #[derive(Clone)]

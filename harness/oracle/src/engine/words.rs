@@ -54,6 +54,16 @@ fn print(event: &dyn Any) -> Option<String> {
     Some(format!("print {} {} {} {forced} {policy} {partial}", e.price, e.volume, e.n_investor_ids))
 }
 
+/// The exclusions of the orders that the lines of one call say were screened, each in its order's place.
+pub fn note_screens(lines: &[String], exclusions: &mut [u8]) {
+    for line in lines {
+        if let ["screen", order, exclusion] = line.split(' ').collect::<Vec<_>>()[..] {
+            let order: usize = order.parse().expect("an order's number");
+            exclusions[order] = exclusion.parse().expect("an exclusion's number");
+        }
+    }
+}
+
 /// The source's events name wallets; a file has no two orders of one.
 fn place(session: &Session, wallet: &Pubkey) -> String {
     session.orders.iter().position(|o| o.owner == *wallet).map_or("?".to_string(), |i| i.to_string())

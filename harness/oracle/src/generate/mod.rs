@@ -13,6 +13,9 @@ use style::Style;
 
 pub use damage::damage;
 
+/// The most calls up to a clear.
+const MOST_CALLS: usize = 100;
+
 /// File `n` of a seed: a course, at times damaged.
 pub fn file(seed: u64, n: u64) -> Vec<u8> {
     let r = &mut Random::item(seed, n);
@@ -57,17 +60,25 @@ pub fn long(r: &mut Random) -> Vec<u8> {
     }
 }
 
-/// A session that just cleared: of a book whose orders were screened in turn, some of them excluded. Nothing where a record is turned
-/// away, a call is refused, or the session fails.
-pub fn cleared(r: &mut Random) -> Option<State> {
-    let style = Style { noise: 0, ..Style::any(r) };
-    let mut state = crate::session_after(&book::book(r, &style))?;
+/// A file whose session just cleared, and that session: of a book whose orders were screened in turn, some of them excluded, with so many
+/// percent of other calls among the screens. Nothing where a record is turned away, the session fails, or it does not clear. Without other
+/// calls none is refused.
+pub fn cleared(r: &mut Random, noise: u64) -> Option<(Vec<u8>, State)> {
+    let style = Style { noise, ..Style::any(r) };
+    let mut file = book::book(r, &style);
+    let mut state = crate::session_after(&file)?;
     state.quick = true;
-    while matches!(state.session.phase, Phase::Reveal | Phase::Clearing) {
+    for _ in 0..MOST_CALLS {
         let call = calls::call(r, &style, &state);
-        let Answer::Done(_) = engine::run(&mut state, &call) else { return None };
+        call.write(&mut file);
+        let is_done = matches!(engine::run(&mut state, &call), Answer::Done(_));
+        match state.session.phase {
+            Phase::Allocating => return Some((file, state)),
+            Phase::Reveal | Phase::Clearing if is_done || noise > 0 => (),
+            _ => return None,
+        }
     }
-    (state.session.phase == Phase::Allocating).then_some(state)
+    None
 }
 
 fn with_style(r: &mut Random, style: &Style) -> Vec<u8> {

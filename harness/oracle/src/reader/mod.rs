@@ -86,9 +86,15 @@ impl<'a> Reader<'a> {
 
 /// The session after a file in which no record is turned away.
 pub fn session_after(file: &[u8]) -> Option<State> {
-    let mut reader = Reader::new(file, false);
+    run_through(file, false).ok()?.0
+}
+
+/// The session after a file, if a header opened one, and the words of all lines; or the refusal that ends the file.
+pub fn run_through(file: &[u8], quick: bool) -> Result<(Option<State>, Vec<String>), u8> {
+    let mut reader = Reader::new(file, quick);
+    let mut lines = Vec::new();
     while !reader.rest.is_empty() {
-        reader.next_record().ok()?;
+        lines.extend(reader.next_record()?);
     }
-    reader.state
+    Ok((reader.state, lines))
 }
