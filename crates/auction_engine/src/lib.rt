@@ -1,7 +1,7 @@
 // The auction engine from the reveal on: a session, and the nine calls on it.
 #![tactic(auto)]
 
-ghost use Rattle.std.specs.Prelude.{◌≡◌, ◌≤◌, Ok, IfOk, length};
+ghost use Rattle.std.specs.Prelude.{◌≡◌, true, false, [], ◌≤◌, Ok, IfOk, length};
 ghost use Rattle.refusals.specs.Number.{number, refusal_in};
 ghost use Rattle.laws.specs.Checks.{◌then◌};
 ghost use Rattle.credit_math.specs.Limits.{max_orders};
@@ -240,7 +240,18 @@ impl Session {
         ensures said { told self.new (said_by result) ≡ answer self.old call.now }
         ensures size { IfOk result (λ said. is_many said ≡ is_allocate call.now) }
     {
-        Ok(Said::Few(match call {
+        if let Call::Allocate { now, max_fills } = call {
+            return Ok(Said::Many(self.allocate_here(*now, *max_fills)?));
+        }
+        Ok(Said::Few(self.make_few(call)?))
+    }
+
+    // The same of any other call than an allocate, whose events need more room than these are moved with. An allocate is not made.
+    pub fn make_few(&mut self, call: &Call) -> Result<FewEvents, Refusal>
+        ensures few { is_allocate call.now ≡ false → told self.new result ≡ answer self.old call.now }
+        ensures allocate { is_allocate call.now ≡ true → (result ≡ Ok []) × (self.new ≡ self.old) }
+    {
+        match call {
             Call::Screen {
                 now,
                 order,
@@ -248,23 +259,21 @@ impl Session {
                 verdict,
                 has_id,
                 id,
-            } => self.screen_here(*now, *order, *side, *verdict, *has_id, id)?,
-            Call::Clear { now } => self.clear_here(*now)?,
-            Call::Allocate { now, max_fills } => {
-                return Ok(Said::Many(self.allocate_here(*now, *max_fills)?));
-            }
+            } => self.screen_here(*now, *order, *side, *verdict, *has_id, id),
+            Call::Clear { now } => self.clear_here(*now),
+            Call::Allocate { .. } => Ok(FewEvents::none()),
             Call::Exercise {
                 now,
                 issuer,
                 fill,
                 qty,
-            } => self.exercise_here(*now, issuer, *fill, *qty)?,
-            Call::Close { now, caller } => self.close_here(*now, caller)?,
-            Call::Settle { fill } => self.settle_here(*fill)?,
-            Call::Skip { now, fill, reason } => self.skip_here(*now, *fill, *reason)?,
-            Call::Finish { now } => self.finish_here(*now)?,
-            Call::Expire { now } => self.expire_here(*now)?,
-        }))
+            } => self.exercise_here(*now, issuer, *fill, *qty),
+            Call::Close { now, caller } => self.close_here(*now, caller),
+            Call::Settle { fill } => self.settle_here(*fill),
+            Call::Skip { now, fill, reason } => self.skip_here(*now, *fill, *reason),
+            Call::Finish { now } => self.finish_here(*now),
+            Call::Expire { now } => self.expire_here(*now),
+        }
     }
 
     // The call that a record says.

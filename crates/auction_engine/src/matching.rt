@@ -28,7 +28,7 @@ impl Session {
     }
 
     #[tactic(auto, using(crate::proofs::Allocating::allocating), unfolding(crate::specs::Engine::answer, crate::specs::Engine::effect, crate::specs::Engine::events, crate::specs::Matching::allocate_effect, crate::specs::Matching::allocate_events))]
-    pub(crate) fn allocate_here(&mut self, now: i64, max_fills: u8) -> Result<CallEvents, Refusal>
+    pub fn allocate_here(&mut self, now: i64, max_fills: u8) -> Result<CallEvents, Refusal>
         ensures { told self.new result ≡ answer self.old (call.Allocate now max_fills) }
     {
         self.allocate_refusal()?;

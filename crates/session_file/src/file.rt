@@ -1,9 +1,10 @@
 // What a record of a file does to the session, and what is said of it.
-ghost use Rattle.std.specs.Prelude.{◌≡◌, ◌<◌, ◌≤◌, ◌==◌, if◌then◌else◌, IfOk, OnErr, length};
+ghost use Rattle.std.specs.Prelude.{◌≡◌, false, ◌<◌, ◌≤◌, ◌==◌, if◌then◌else◌, IfOk, OnErr, length};
 ghost use Rattle.refusals.specs.Number.{refusal_in};
 ghost use Rattle.octets.specs.Writing.{Writes};
 ghost use Rattle.listing.specs.Lines.{record_lines, max_record};
-ghost use Rattle.auction_engine.specs.Engine.{answer};
+ghost use Rattle.auction_engine.specs.declared.Call.TheVariants as call;
+ghost use Rattle.auction_engine.specs.Engine.{is_allocate, answer};
 ghost use Rattle.session_file.specs.File.{unopened, file_refusal, made, said_by, last_line};
 ghost use Rattle.session_file.specs.Parts.{state_at, first_place, after_record};
 ghost use Rattle.session_file.specs.Steps.{next_read, read_of, said_all, refused_by};
@@ -131,7 +132,6 @@ fn put_fields(
 }
 
 // A call made, and its events; of a refused one its refusal.
-#[tactic(auto, unfolding(auction_engine::specs::Engine::answer))]
 fn put_call(
     session: &mut Session,
     call: &Call,
@@ -142,7 +142,45 @@ fn put_call(
     ensures lines { Writes (record_lines number (said_all (answer session.old call.now))) result out.old out.new }
     ensures room { max_record ≤ length out.old → refusal_in result ≡ 0 }
 {
-    match session.make(call) {
+    match call {
+        Call::Allocate { now, max_fills } => put_allocate(session, *now, *max_fills, number, out),
+        _ => put_few(session, call, number, out),
+    }
+}
+
+// An allocate, by itself: a function pays at its entry for the room of its events.
+#[tactic(auto, unfolding(auction_engine::specs::Engine::answer))]
+fn put_allocate(
+    session: &mut Session,
+    now: i64,
+    max_fills: u8,
+    number: u64,
+    out: &mut [u8],
+) -> Result<usize, Refusal>
+    ensures session { session.new ≡ (answer session.old (call.Allocate now max_fills)).session }
+    ensures lines { Writes (record_lines number (said_all (answer session.old (call.Allocate now max_fills)))) result out.old out.new }
+    ensures room { max_record ≤ length out.old → refusal_in result ≡ 0 }
+{
+    match session.allocate_here(now, max_fills) {
+        Ok(said) => listing::put_events(out, number, said.as_slice()),
+        Err(refusal) => put_refused(out, number, refusal),
+    }
+}
+
+// Any other call.
+#[tactic(auto, unfolding(auction_engine::specs::Engine::answer))]
+fn put_few(
+    session: &mut Session,
+    call: &Call,
+    number: u64,
+    out: &mut [u8],
+) -> Result<usize, Refusal>
+    requires { is_allocate call.now ≡ false }
+    ensures session { session.new ≡ (answer session.old call.now).session }
+    ensures lines { Writes (record_lines number (said_all (answer session.old call.now))) result out.old out.new }
+    ensures room { max_record ≤ length out.old → refusal_in result ≡ 0 }
+{
+    match session.make_few(call) {
         Ok(said) => listing::put_events(out, number, said.as_slice()),
         Err(refusal) => put_refused(out, number, refusal),
     }
