@@ -12,7 +12,7 @@ use Rattle.inquiries.specs.Why as session
 use Rattle.inquiries.proofs.Asking.{line_fits}
 use Rattle.session_file.proofs.Entry.{minus, minus_fits}
 use Rattle.session_file.specs.Ended.{session_refusal, session_of}
-use Rattle.file_inquiries.specs.Entry.{refusal_of, negated, Asked, Told}
+use Rattle.file_inquiries.specs.Entry.{refusal_of, negated, Entered, Told}
 
 -- a refusal's number is a byte, and negated
 small : (r : Refusal) → number r < 256
@@ -47,13 +47,13 @@ module _ (input : List ℕ) (order : ℕ) (out : List ℕ) where
   told_within n left t = omega (arith, t.len, line_fits (session_of input) order (length out) (then_zero (session_refusal input) _ (sym t.refusal)).1)
 
   -- the number for a host
-  pub told_length : (n : ℕ) (left : List ℕ) → length out < 2 ^ 63 → Told input order (Ok n) out left → Asked input order (to_z w64 n) out left
+  pub told_length : (n : ℕ) (left : List ℕ) → length out < 2 ^ 63 → Told input order (Ok n) out left → Entered input order (to_z w64 n) out left
   told_length n left h t = record {
     answer = rw (to_z_pos w64 {n = n} (omega (arith, told_within n left t)), ← t.refusal) (ap pos t.len);
     output = t.output;
   }
 
-  pub told_number : (r : Refusal) (left : List ℕ) → Told input order (Err r) out left → Asked input order (to_z w64 (of_z w64 (pos 0 -ℤ to_z w64 (number r)))) out left
+  pub told_number : (r : Refusal) (left : List ℕ) → Told input order (Err r) out left → Entered input order (to_z w64 (of_z w64 (pos 0 -ℤ to_z w64 (number r)))) out left
   told_number r left t =
       let z : number r ≢ 0 = λ e. omega (arith, e, numbered r) in
       record {

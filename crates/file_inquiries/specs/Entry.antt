@@ -22,7 +22,7 @@ negated (suc n) = negsuc n
 
 -- the length of the line, at the start of the output; or the refusal negated. 'Here and later, lent memory past an answer stays as it was', and all of
 -- it where the question is refused
-pub record Asked (input : List ℕ) (order : ℕ) (r : ℤ) (before after : List ℕ) : Type 0 where
+pub record Entered (input : List ℕ) (order : ℕ) (r : ℤ) (before after : List ℕ) : Type 0 where
   pub answer : r ≡ (if refusal_of input order (length before) == 0 then pos (length (line_of input order)) else negated (refusal_of input order (length before)))
   pub output : after ≡ (if refusal_of input order (length before) == 0 then splice 0 (line_of input order) before else before)
 

@@ -1,7 +1,7 @@
 // Questions that a host asks of a session file.
 #![tactic(auto)]
 
-ghost use Rattle.file_inquiries.specs.Entry.{Asked, Told};
+ghost use Rattle.file_inquiries.specs.Entry.{Entered, Told};
 
 use inquiries::why::why;
 use refusals::Refusal;
@@ -12,7 +12,7 @@ pub mod claims;
 // Why an order of a session file got its lot: the line at the start of the output, and its length; or the refusal negated, and the output as it was.
 #[unsafe(no_mangle)]
 pub extern "C" fn why_in_session_file(input: &[u8], order: u64, out: &mut [u8]) -> i64
-    ensures { Asked input.now order result out.old out.new }
+    ensures { Entered input.now order result out.old out.new }
 {
     match ask_why(input, order, out) {
         Ok(len) => len as i64,
