@@ -24,7 +24,7 @@ extern "C" {
    which says at which record and why. Nothing is kept between calls, so threads may call this at once.
 
    Stack: give the calling thread 128 KiB or more. Measured by harness/c/stack.c on x86-64 Linux: with a session of 16 orders and 24 fills
-   and every kind of call, this runs on a thread of 28 KiB and crashes on one of 24 KiB. How long the file is makes no difference. */
+   and every kind of call, this runs on a thread of 24 KiB and crashes on one of 20 KiB. How long the file is makes no difference. */
 int64_t clear_session_file(const uint8_t *input, size_t input_len, uint8_t *output, size_t output_len);
 
 #ifdef __cplusplus
