@@ -3,17 +3,24 @@
 use mathlib.Core.Path.{◌≡◌, refl, sym, ◌∙◌, ap}
 use mathlib.Core.Logic.{◌≢◌}
 use mathlib.Core.Bool.{Bool, true, false, ◌&&◌}
-use Prim.Native.Nat.{ℕ, ◌+◌, ◌<◌}
+use Prim.Native.Nat.{ℕ, ◌+◌, ◌*◌, ◌^◌, ◌≤◌, ◌<◌}
+use native.Mathlib.Nat.{lt_of_le_of_lt, lt_of_lt_of_le}
 use native.Mathlib.Decide.{ℕ_discrete}
 use native.Mathlib.Omega.{arith}
 use Rattle.laws.specs.Sums.{sum_below, only}
 use Rattle.laws.proofs.Tests.{clash}
-use Rattle.laws.proofs.Sums.{sum_same, sum_zero, sum_at}
+use Rattle.laws.proofs.Sums.{sum_same, sum_zero, sum_at, sum_le_sum, sum_mono}
+use Rattle.laws.proofs.Widths.{sum_below_lem}
 
 -- a term that counts where the rest of its test holds
 only_and : (a b : Bool) (x : ℕ) → (a ≡ true → b ≡ true) → only a x ≡ only (a && b) x
 only_and true b x h = rw (h refl)
 only_and false b x h = refl
+
+-- a term that counts is at most the quantity
+pub only_within : (a : Bool) (x : ℕ) → only a x ≤ x
+only_within true x = omega arith
+only_within false x = omega arith
 
 -- n places, each with its value, what it adds and its row; `le` is the order in which they are passed
 module _ (n : ℕ) (v q row : ℕ → ℕ) (le : ℕ → ℕ → Bool) where
@@ -51,6 +58,13 @@ module _ (n : ℕ) (v q row : ℕ → ℕ) (le : ℕ → ℕ → Bool) where
           ap (λ (b : Bool). only b (q j)) x.now,
           ap (λ (b : Bool). only b (q j)) x.new,
         )
+
+    -- it fits where all that the places add does
+    pub next_fits : (k m bound : ℕ) → n ≤ m → m * 2 ^ k ≤ bound → ((h : ℕ) → q h < 2 ^ k) → sum + q j < bound
+    next_fits k m bound few fits short =
+        rw with_next
+        (lt_of_le_of_lt (sum_le_sum (λ h. only (done' h) (q h)) q n (λ h _. only_within (done' h) (q h)))
+        (lt_of_lt_of_le (lt_of_le_of_lt (sum_mono q n m few) (sum_below_lem k q m short (omega (arith, x.inside)))) fits))
 
     module _ {out' : ℕ → ℕ} (stored : out' (row j) ≡ sum + q j) (others : (m : ℕ) → m ≢ row j → out' m ≡ out m) where
       in_row : (i : ℕ) → i < n → row i ≡ row j → out' (row i) ≡ sum_below (λ h. only (done' h && le (v h) (v i)) (q h)) n

@@ -1,8 +1,8 @@
 -- The table of side totals is right, and the sums that are carried along stay small. Assumes nothing.
 use mathlib.Core.Path.{◌≡◌, refl, sym, ◌∙◌, ap, subst}
-use mathlib.Core.Bool.{Bool, true, false}
+use mathlib.Core.Bool.{Bool}
 use mathlib.Core.List.{List, []}
-use Prim.Native.Nat.{ℕ, ◌<◌, ◌≤◌, zero-le}
+use Prim.Native.Nat.{ℕ, ◌<◌, zero-le}
 use native.Mathlib.Nat.{lt_trans, lt_of_le_of_lt}
 use native.Mathlib.Omega.{arith}
 use lib.ListN.{length, get_or}
@@ -16,6 +16,7 @@ use Rattle.laws.proofs.Ascending.{Among, one_ascent}
 use Rattle.credit_math.specs.Price.{buy, sell}
 use Rattle.credit_math.specs.SideTotals.{Table, distinct_limits, column, totals_at}
 use Rattle.credit_math.specs.Claims.{RightTable, SameRows, TableIsRight, RunningSumsFit}
+use Rattle.credit_math.proofs.Carried.{only_within}
 use Rattle.credit_math.proofs.Columns.{distinct_members, column_at, column_past, table_accepted, table_refused}
 
 module _ (is_buy : List Bool) (limits qtys : List ℕ) where
@@ -72,11 +73,6 @@ table_is_right is_buy limits qtys = record {
   no_row = λ ne. rw (table_refused is_buy limits qtys ne) (no_rows is_buy limits qtys);
   no_figure = λ ne k. rw (table_refused is_buy limits qtys ne) (no_figures is_buy limits qtys k);
 }
-
--- a term that counts is at most the quantity
-only_within : (a : Bool) (x : ℕ) → only a x ≤ x
-only_within true x = omega arith
-only_within false x = omega arith
 
 pub running_sums_fit : (is_buy : List Bool) (limits qtys : List ℕ) → RunningSumsFit is_buy limits qtys
 running_sums_fit is_buy limits qtys n k some few short picked =

@@ -92,7 +92,7 @@ impl Sharing<'_> {
 }
 
 // The sum of at most 16 quantities.
-#[tactic(auto, using(laws::proofs::Sums::sum_none, laws::proofs::Sums::sum_more), unfolding(laws::specs::Sums::sum_of, wide::specs::Value::modulus))]
+#[tactic(auto, unfolding(laws::specs::Sums::sum_of))]
 pub(crate) fn sum_of(qtys: &[u64]) -> Wide
     requires { length qtys.now ≤ max_orders }
     ensures { result ≡ sum_of qtys.now }

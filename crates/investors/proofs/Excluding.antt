@@ -1,14 +1,21 @@
 -- The checks over the orders counted are those over all, read up to the limit. Assumes nothing.
-use Rattle.std.proofs.Common.{◌≡◌, ℕ, ◌+◌, min, not, ◌&&◌, ◌==◌, List, length, take, ap, arith}
+use Rattle.std.proofs.Common.{◌≡◌, ℕ, ◌+◌, ◌*◌, ◌^◌, ◌≤◌, min, not, ◌&&◌, ◌==◌, List, length, take, ap, arith}
 use Rattle.std.proofs.lemmas.List.{get_or-take, length-take-le}
+use lib.Dec.{lit≤}
 use Rattle.laws.specs.Sums.{sum_below, only}
 use Rattle.laws.specs.Search.{some}
 use Rattle.laws.proofs.Sums.{sum_same}
 use Rattle.laws.proofs.Search.{some_same}
+use Rattle.wide.specs.Value.{modulus}
 use Rattle.credit_math.specs.Limits.{max_orders}
 use Rattle.book.specs.Book.{order_in, is_buy, no_order}
 use Rattle.book.specs.declared.Order.{Order}
 use Rattle.investors.specs.Exclusion.{is_other, self_trade, cash_of}
+
+-- the order's own escrow and those of all the orders fit two words
+pub escrows_fit : (max_orders + 1) * 2 ^ 64 ≤ modulus
+unfolding modulus
+escrows_fit = lit≤ tt
 
 -- with the side and the escrow of the order itself
 module _ (orders : List Order) (n m i : ℕ) (id : List ℕ) (e : m ≡ min n max_orders) (h : length orders ≡ max_orders) (own : ℕ × ℕ) (o : own ≡ ((order_in orders i).side, (order_in orders i).escrowed)) where

@@ -61,7 +61,6 @@ fn trades_itself(orders: &[Order], index: usize, id: &[u8; 16], side: u8) -> boo
 }
 
 // The escrow of the order itself, `escrowed`, and of the investor's other buys.
-#[tactic(auto, using(laws::proofs::Sums::sum_none, laws::proofs::Sums::sum_more), unfolding(wide::specs::Value::modulus, crate::specs::Exclusion::is_other))]
 fn cash_of(orders: &[Order], index: usize, id: &[u8; 16], escrowed: u64) -> Wide
     requires { length orders.now ≤ max_orders }
     ensures { result ≡ escrowed + sum_below (λ j. only (is_other orders.now (length orders.now) index id.now j && is_buy (order_in orders.now j)) (order_in orders.now j).escrowed) (length orders.now) }

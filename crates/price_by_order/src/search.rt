@@ -28,7 +28,6 @@ pub fn best_quote(orders: &Orders, reserve: u64, reference: u64) -> Option<Quote
 }
 
 // The total of a side at p.
-#[tactic(auto, using(crate::proofs::Sides::added_none, crate::proofs::Sides::added_more, crate::proofs::Sides::added_all), unfolding(wide::specs::Value::modulus))]
 fn side_total(orders: &Orders, buys: bool, p: u64) -> Wide
     ensures { result ≡ side_total orders.now.is_buy.now orders.now.limits.now orders.now.qtys.now buys p }
 {

@@ -1,6 +1,6 @@
 -- Laws of the number of binary digits, and what leading zeros leave of it.
 -- Assumes nothing.
-use Rattle.std.proofs.Common.{◌≡◌, ℕ, zero, suc, ◌+◌, ◌-◌, ◌*◌, ◌^◌, ◌<◌, ◌≤◌, Bool, ltb, sym, ap, ◌∙◌, subst, ⊎_elim, le_refl, mul-le-mul_right, add-mul, le_antisymm, arith, pow_mono, pow-add, ltb-false, ltb-true, zero-mul}
+use Rattle.std.proofs.Common.{◌≡◌, ℕ, zero, suc, ◌+◌, ◌-◌, ◌*◌, ◌^◌, ◌<◌, ◌≤◌, Bool, ltb, sym, ap, ◌∙◌, subst, ⊎_elim, le_refl, mul-le-mul_right, add-mul, le_antisymm, arith, pow_mono, pow-add, ltb-false, ltb-true}
 use native.Mathlib.Nat.{two-pow-succ}
 use lib.Arith.{digits_lt}
 use lib.Count.{count_leading_zeros, leading_length, leading_top}
@@ -8,6 +8,7 @@ use Rattle.laws.specs.Search.{first}
 use Rattle.laws.proofs.Search.{first_le, first_holds, first_below}
 use Rattle.laws.proofs.Tests.{lt_or_le}
 use Rattle.wide.specs.Value.{digits, bit_length}
+use Rattle.wide.proofs.Laws.{zero_low}
 
 -- a number is below 2 to it
 below_power : (n : ℕ) → n < 2 ^ n
@@ -39,10 +40,6 @@ length_is n m h r =
     ⊎_elim (λ (l : k < m). omega (arith, below_length n, two-pow-succ k, pow_mono l))
     (λ (l : m ≤ k). le_antisymm l (length_le n m h))
     (lt_or_le k m)
-
--- a number whose upper digit is 0 is its lower digit
-zero_low : (k h l : ℕ) → h ≡ 0 → l ≡ digits k h l
-zero_low k h l e = omega (arith, ap (λ (n : ℕ). n * 2 ^ k) e, zero-mul (2 ^ k))
 
 -- the length of a number whose upper digit is 0: what the leading zeros of the lower leave
 pub length_low : (k h l : ℕ) → l < 2 ^ k → h ≡ 0 → k - count_leading_zeros k l ≡ bit_length (digits k h l)

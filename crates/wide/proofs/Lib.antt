@@ -1,4 +1,5 @@
 -- Laws of two-word numbers.
+pub mod Laws
 pub mod Columns
 pub mod Length
 pub mod Long

@@ -1,13 +1,36 @@
 -- Laws of long division in binary.
 -- Assumes nothing.
-use Rattle.std.proofs.Common.{◌≡◌, ℕ, zero, ◌+◌, ◌-◌, ◌*◌, ◌/◌, ◌%◌, ◌^◌, ◌<◌, ◌≤◌, sym, ap, ◌∙◌, subst, mul_assoc, add_comm, zero-mul, div-one, arith, pow_pos, pow-add, shr-shr}
+use Rattle.std.proofs.Common.{◌≡◌, ℕ, zero, ◌+◌, ◌-◌, ◌*◌, ◌/◌, ◌%◌, ◌^◌, ◌<◌, ◌≤◌, sym, ap, ◌∙◌, subst, mul-le-mul_right, mul_assoc, mul_comm, add-mul, add_comm, lt_of_mul-lt-mul_right, div-add-mod', zero-mul, div-one, arith, pow_pos, pow-add, shr-shr}
 use native.Mathlib.Nat.{div-eq_of_lt, add-mul-div_right}
 use lib.Pow.{high}
-use lib.Arith.{digits_div, digits_mod}
+use lib.Arith.{digits_lt, digits_div, digits_mod}
 use Rattle.wide.specs.declared.Division.{Division}
 use Rattle.wide.specs.Divided.{Divided}
 use Rattle.wide.specs.Value.{digits, bit_length}
 use Rattle.wide.proofs.Length.{below_length}
+
+-- a number of two digits to the base 2 c doubled, and a digit b put behind it
+pub twice : (c h l b : ℕ) → (h * 2 + l / c) * (2 * c) + (l % c * 2 + b) ≡ 2 * (h * (2 * c) + l) + b
+twice c h l b = omega (arith, add-mul (h * 2) (l / c) (2 * c), two_out h (2 * c), two_in (l / c) c, div-add-mod' l c)
+  where
+    two_out : (x y : ℕ) → x * 2 * y ≡ 2 * (x * y)
+    two_out x y = ap (λ (n : ℕ). n * y) (mul_comm x 2) ∙ mul_assoc 2 x y
+
+    two_in : (x y : ℕ) → x * (2 * y) ≡ 2 * (x * y)
+    two_in x y = sym (mul_assoc x 2 y) ∙ two_out x y
+
+pub twice_upper : (c h l b m : ℕ) → 2 * (h * (2 * c) + l) + b < m * (2 * c) → h * 2 + l / c < m
+twice_upper c h l b m s = lt_of_mul-lt-mul_right (2 * c) (omega (arith, twice c h l b))
+
+mul_two : (x y : ℕ) → 2 * x * y ≡ 2 * (x * y)
+mul_two x y = mul_assoc 2 x y
+
+-- an upper digit in the upper half of the digits, or in the lower
+pub half_above : (c h l : ℕ) → c ≤ h → 2 * c * (2 * c) ≤ 2 * (h * (2 * c) + l)
+half_above c h l s = omega (arith, mul_two c (2 * c), mul-le-mul_right (2 * c) s)
+
+pub half_below : (c h l : ℕ) → l < 2 * c → h < c → 2 * (h * (2 * c) + l) ≤ 2 * c * (2 * c)
+half_below c h l f s = omega (arith, mul_two c (2 * c), digits_lt s f)
 
 -- a digit of the lower half
 pub digit_low : (k h l i : ℕ) → i < k → digits k h l / 2 ^ i % 2 ≡ l / 2 ^ i % 2
