@@ -4,17 +4,21 @@ use mathlib.Core.Path.{◌≡◌, ◌∙◌}
 use mathlib.Core.Logic.{◌↔◌}
 use mathlib.Core.Bool.{Bool, true, false, ◌&&◌}
 use mathlib.Core.List.{List}
-use Prim.Native.Nat.{ℕ}
+use Prim.Native.Nat.{ℕ, ◌≤◌}
 use native.Mathlib.Nat.{le_antisymm, lt_trans, le_refl}
 use lib.Dec.{ltb, leb}
-use borrow.Author.Tests.{lt-ltb, le-ltb, ltb-true, ltb-false, le-leb, leb-true, eq-eqb}
+use lib.ListN.{length}
+use borrow.Author.Tests.{lt-ltb, le-ltb, ltb-true, ltb-false, le-leb, leb-true, eq-eqb, eqb-true}
+use Rattle.laws.specs.Checks.{unless, first_of}
 use Rattle.laws.specs.Lists.{Member, keep}
 use Rattle.laws.specs.Sort.{sort}
+use Rattle.laws.proofs.Checking.{check_zero, unless_zero}
 use Rattle.laws.proofs.Tests.{both}
 use Rattle.laws.proofs.Lists.{keep_members}
 use Rattle.laws.proofs.Sort.{sort_members, dedup_members}
 use Rattle.laws.proofs.Lex.{lex_same, lex_trans, lex_total}
 use Rattle.wide.specs.Value.{apart}
+use Rattle.credit_math.specs.Limits.{max_orders}
 use Rattle.credit_math.specs.Price.{Best, none, walk, executed, imbalance, executes, better, candidates, clear_price, priced, price_refusal, find_uniform_clear_price}
 use Rattle.credit_math.specs.Claims.{Executes}
 use Rattle.credit_math.proofs.Best.{BestOf, Counted, best_of, walk_best, best_one}
@@ -104,3 +108,17 @@ module _ (is_buy : List Bool) (limits qtys : List ℕ) (reserve reference : ℕ)
       → find_uniform_clear_price is_buy limits qtys reserve reference ≡ priced (executed is_buy limits qtys) (clear_price is_buy limits qtys reserve reference)
   unfolding find_uniform_clear_price
   no_refusal z = rw (eq-eqb (price_refusal is_buy limits qtys) 0 z)
+
+-- lists of one length, of at most max_orders places, are not refused
+pub book_accepted : (is_buy : List Bool) (limits qtys : List ℕ) → length is_buy ≤ max_orders → length limits ≡ length is_buy → length qtys ≡ length is_buy → price_refusal is_buy limits qtys ≡ 0
+unfolding price_refusal unless first_of
+book_accepted is_buy limits qtys few limits_too qtys_too =
+    simp (le-leb (length is_buy) max_orders few, eq-eqb (length limits) (length is_buy) limits_too, eq-eqb (length qtys) (length is_buy) qtys_too)
+
+-- and the other way round
+pub accepted_book : (is_buy : List Bool) (limits qtys : List ℕ) → price_refusal is_buy limits qtys ≡ 0 → (length is_buy ≤ max_orders) × (length limits ≡ length is_buy) × (length qtys ≡ length is_buy)
+unfolding price_refusal
+accepted_book is_buy limits qtys z =
+    let first = check_zero _ _ _ z in
+    let second = check_zero _ _ _ first.1 in
+    (leb-true (length is_buy) max_orders first.0, eqb-true (length limits) (length is_buy) second.0, eqb-true (length qtys) (length is_buy) (unless_zero _ _ second.1))

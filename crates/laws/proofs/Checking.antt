@@ -61,6 +61,12 @@ unfolding first_of
 then_assoc zero b c = refl
 then_assoc (suc a) b c = rw (eqb-suc-zero a, eqb-suc-zero a)
 
+-- nothing more to check
+pub then_nothing : (m : ℕ) → (m then 0) ≡ m
+unfolding first_of
+then_nothing zero = refl
+then_nothing (suc m) = rw (eqb-suc-zero m)
+
 -- checks come to 0 or to one of their numbers
 pub then_in : (l : List ℕ) (m n : ℕ) → Member m (0 ∷ l) → Member n (0 ∷ l) → Member (m then n) (0 ∷ l)
 unfolding first_of

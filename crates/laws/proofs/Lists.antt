@@ -1,15 +1,17 @@
 -- Laws of tables, stores, filters and equal lists. Assumes nothing.
 use mathlib.Core.Path.{◌≡◌, refl, sym, ap, ap₂, ◌∙◌, subst}
 use mathlib.Core.Logic.{◌≢◌, ◌↔◌, inl, inr, ⊎_elim}
-use mathlib.Core.Bool.{Bool, true, false, cond}
+use mathlib.Core.Bool.{Bool, true, false, cond, ◌&&◌}
 use mathlib.Core.List.{List, [], ◌∷◌, map}
-use Prim.Native.Nat.{ℕ, zero, suc, ◌≤◌, ◌<◌}
+use Prim.Native.Nat.{ℕ, zero, suc, ◌+◌, ◌≤◌, ◌<◌}
 use native.Mathlib.Nat.{le_of_suc-le-suc, lt_of_lt_of_le}
+use native.Mathlib.Numerals.{add-one}
 use native.Mathlib.Omega.{arith}
+use lib.Dec.{eqb}
 use borrow.Author.Tests.{eqb-true, eq-eqb}
 use Rattle.std.proofs.lemmas.List.{get_or-map}
 use lib.ListN.{length, get_or, set, drop, replicate, length-map, length-replicate, get_or-replicate, drop_of_length-le, get_or-eq_default}
-use lib.Seq.{ext_get_or}
+use lib.Seq.{ext_get_or, drop-cons}
 use Rattle.laws.specs.Sums.{sum_below, sum_of, sum_over}
 use Rattle.laws.specs.Lists.{table, keep, Member, same}
 use Rattle.laws.proofs.Tests.{both, clash, lt_or_le}
@@ -139,6 +141,12 @@ SamePast a b k i = (i ≤ k) × (same a b ≡ same (drop i a) (drop i b))
 module _ (a b : List ℕ) (k i : ℕ) (ha : length a ≡ k) (hb : length b ≡ k) where
   pub same_end : SamePast a b k i → k ≤ i → true ≡ same a b
   same_end v h = rw (v.1, drop_of_length-le a {i = i} (omega arith), drop_of_length-le b {i = i} (omega arith))
+
+  same_next : i < k → same (drop i a) (drop i b) ≡ (eqb (get_or a i 0) (get_or b i 0) && same (drop (suc i) a) (drop (suc i) b))
+  same_next h = rw (drop-cons a i 0 (omega arith), drop-cons b i 0 (omega arith))
+
+  pub same_more : i < k → SamePast a b k i → get_or a i 0 ≡ get_or b i 0 → SamePast a b k (i + 1)
+  same_more h v e = (omega arith, v.1 ∙ rw (add-one, same_next h, eq-eqb _ _ e))
 
 -- what stands among those that pass: what stands in the list and passes
 pub keep_members : (p : ℕ → Bool) (z : ℕ) (l : List ℕ) → Member z (keep p l) ↔ (Member z l × (p z ≡ true))

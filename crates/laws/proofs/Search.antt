@@ -6,7 +6,7 @@ use native.Mathlib.Nat.{le_refl, le_step, not-suc-le-zero}
 use native.Mathlib.Decide.{ℕ_discrete}
 use native.Mathlib.Numerals.{add-one}
 use native.Mathlib.Omega.{arith}
-use borrow.Author.Tests.{ltb-true, ltb-false}
+use borrow.Author.Tests.{ltb-true, ltb-false, lt-ltb, le-ltb}
 use lib.Dec.{ltb}
 use Rattle.laws.specs.Search.{first, every, some}
 use Rattle.laws.proofs.Tests.{both, clash}
@@ -44,6 +44,16 @@ first_below p (suc n) j l = go (ltb (first p n) n) (p n) refl refl (first_below 
     go false true e q ih d l = ih (omega (arith, ltb-false (first p n) n e))
     go false false e q ih (yes w) l = ap p w ∙ q
     go false false e q ih (no w) l = ih (omega (arith, ltb-false (first p n) n e))
+
+-- found at i
+pub first_found : (p : ℕ → Bool) (i n : ℕ) → first p i ≡ i → p i ≡ true → i < n → first p n ≡ i
+unfolding first
+first_found p i zero e t l = absurd (omega arith)
+first_found p i (suc n) e t l = go (ℕ_discrete i n) (first_found p i n e t)
+  where
+    go : Dec (i ≡ n) → (i < n → first p n ≡ i) → cond (ltb (first p n) n) (first p n) (cond (p n) n (suc n)) ≡ i
+    go (yes q) _ = rw (← q, e, le-ltb i i (le_refl i), t)
+    go (no q) ih = let h : first p n ≡ i = ih (omega arith) in rw (h, lt-ltb i n (omega arith))
 
 pub every_all : (p : ℕ → Bool) (n : ℕ) → ((i : ℕ) → i < n → p i ≡ true) → every p n ≡ true
 unfolding every

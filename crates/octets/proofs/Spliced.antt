@@ -5,7 +5,7 @@ use Prim.Native.Nat.{ℕ, ◌+◌, ◌-◌, ◌<◌, ◌≤◌}
 use native.Mathlib.Nat.{add-zero, add_assoc}
 use native.Mathlib.Numerals.{add-one}
 use native.Mathlib.Omega.{arith}
-use lib.ListN.{length, take, drop, set, length-append, take-append-drop}
+use lib.ListN.{length, take, drop, set, length-append, length-drop, take-append-drop}
 use lib.Seq.{length-take-le, take_at, drop_at, drop-drop, set_split}
 use Rattle.std.proofs.lemmas.Grind.{common_steps}
 use Rattle.octets.specs.Writing.{splice}
@@ -24,6 +24,10 @@ splice_splice : (at : ℕ) (p q e : List ℕ) → at ≤ length e → splice (at
 splice_splice at p q e h =
     let f : length (take at e ++ p) ≡ at + length p = front_length at p e h in
     rw (splice_front at p e, take_at (take at e ++ p) (drop (at + length p) e) (at + length p) f, ← drop-drop, drop_at (take at e ++ p) (drop (at + length p) e) (at + length p) f, drop-drop, append_assoc, append_assoc, length-append, add_assoc)
+
+-- a part stays as long as it is
+pub length_puts : {l : List ℕ} {at r : ℕ} {e e' : List ℕ} → Puts l at r e e' → at + length l ≤ length e → length e' ≡ length e
+length_puts {l} {at} {r} {e} {e'} w h = rw w.bytes (simp (length-append, length-drop) (omega (arith, length-take-le at e (omega arith))))
 
 -- nothing is written
 pub puts_none : (at : ℕ) (e : List ℕ) → Puts [] at at e e
