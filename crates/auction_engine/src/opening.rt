@@ -1,5 +1,5 @@
 // The rows `SH`, `SI` and `OR`: what opens a session.
-ghost use Rattle.std.specs.Prelude.{◌≡◌, if◌then◌else◌, not, ◌&&◌, ◌||◌, nat_lt, nat_le, ◌==◌, pos, ◌+ℤ◌};
+ghost use Rattle.std.specs.Prelude.{◌≡◌, if◌then◌else◌, not, ◌&&◌, ◌||◌, nat_lt, nat_le, ◌==◌, pos, ◌+ℤ◌, IfOk};
 ghost use Rattle.std.specs.Int.Signed.{lt_z, le_z};
 ghost use Rattle.std.specs.List.{list_any};
 ghost use Rattle.refusals.specs.Number.{refusal_in};
@@ -7,11 +7,13 @@ ghost use Rattle.laws.specs.Lists.{same};
 ghost use Rattle.laws.specs.Checks.{unless, ◌then◌};
 ghost use Rattle.clock.specs.Clock.{sum_fits};
 ghost use Rattle.book.specs.Book.{no_wallet};
+ghost use Rattle.events.specs.declared.Event.TheVariants.{Ordered};
 ghost use Rattle.auction_engine.specs.Opening.{header_refusal, row_refusal, order_refusal, with_order};
 
 use crate::Session;
 use crate::first_checks::check;
 use book::{Given, Order, Params, Row};
+use events::Event;
 use refusals::Refusal;
 
 // 4 a field outside its values; 5 an invalid schedule; 6 no cash cap.
@@ -109,15 +111,16 @@ fn shows_right(row: &Row) -> bool
     }
 }
 
-// An order that a file lists, written where the session lies; a refused one leaves it as it was.
+// An order that a file lists, written where the session lies, and the event that says it; a refused one leaves the session as it was.
 #[tactic(auto, using(crate::proofs::Orders::order_room), unfolding(crate::specs::Opening::with_order))]
-pub fn add_order(s: &mut Session, cover: Option<u8>, row: &Row) -> Result<(), Refusal>
+pub fn add_order(s: &mut Session, cover: Option<u8>, row: &Row) -> Result<Event, Refusal>
     ensures refusal { refusal_in result ≡ order_refusal s.old cover row.now }
     ensures session { s.new ≡ (if order_refusal s.old cover row.now == 0 then with_order s.old row.now else s.old) }
+    ensures said { IfOk result (λ said. said ≡ Ordered s.old.order_count) }
 {
     order_refusal(s, cover, row)?;
     let at = s.order_count;
     s.orders[at] = Order::from(*row);
     s.order_count = at + 1;
-    Ok(())
+    Ok(Event::Ordered(at as u64))
 }

@@ -7,7 +7,7 @@ use Prim.Native.Nat.{ℕ, zero, suc}
 use lib.Dec.{eqb}
 use Rattle.laws.specs.Lists.{Member}
 use Rattle.events.specs.declared.Event.{Event}
-use Rattle.events.specs.declared.Event.TheVariants.{OrderScreened, Cleared, SessionFailed, FillAllocated, RofrExercised, RofrClosed, FillSettled, FillSkipped, ClearingPrint, PhaseChanged, Opened, Ordered, Refused}
+use Rattle.events.specs.declared.Event.TheVariants.{Nothing, OrderScreened, Cleared, SessionFailed, FillAllocated, RofrExercised, RofrClosed, FillSettled, FillSkipped, ClearingPrint, PhaseChanged, Opened, Ordered, Refused}
 use Rattle.auction_engine.specs.declared.Session.{Session}
 use Rattle.auction_engine.specs.Session.{fill_at, clearing}
 use Rattle.auction_engine.specs.declared.Call.{Call}
@@ -57,6 +57,7 @@ all_settled s l = run_settled l (begin s) ∙ append-nil (settled_in s l)
 
 -- a line that is a `settle` names a fill of the list k; every line does
 abbrev Names : List ℕ → Event → Type 0
+Names k Nothing = Unit
 Names k (OrderScreened order exclusion) = Unit
 Names k (Cleared price volume reserve reference) = Unit
 Names k (SessionFailed reason) = Unit

@@ -3,7 +3,7 @@ use Rattle.std.specs.Prelude.{◌≡◌, Bool, false, if◌then◌else◌, not, 
 use Rattle.laws.specs.Lists.{Member}
 use Rattle.disclosure.specs.Disclosure.{disclose_answer}
 use Rattle.events.specs.declared.Event.{Event}
-use Rattle.events.specs.declared.Event.TheVariants.{OrderScreened, Cleared, SessionFailed, FillAllocated, RofrExercised, RofrClosed, FillSettled, FillSkipped, ClearingPrint, PhaseChanged, Opened, Ordered, Refused}
+use Rattle.events.specs.declared.Event.TheVariants.{Nothing, OrderScreened, Cleared, SessionFailed, FillAllocated, RofrExercised, RofrClosed, FillSettled, FillSkipped, ClearingPrint, PhaseChanged, Opened, Ordered, Refused}
 use Rattle.events.specs.declared.Print.{Print}
 use Rattle.auction_engine.specs.declared.Session.{Session}
 use Rattle.auction_engine.specs.Session.{allocating, failed}
@@ -42,6 +42,7 @@ nothing_told = told_of [] [] 0 0 [] false
 -- one line more: `rofr F NEW QTY PRICE` is a purchase of QTY of F; `skip F QTY REASON` skips F and its QTY; `fill ..` is a crank's fill; 'the
 -- print is the numbers after the word'; the matching is complete from a change of phase out of Allocating until Deadline, `failed 4`
 abbrev pub tell : Told → Event → Told
+tell t Nothing = t
 tell t (OrderScreened order exclusion) = t
 tell t (Cleared price volume reserve reference) = t
 tell t (SessionFailed reason) =

@@ -41,6 +41,8 @@ pub struct Print {
 // The source's events, from OrderScreened to PhaseChanged; and the lines of document 01's listing that are no event of the source.
 #[derive(Clone, Copy, Debug, PartialEq, Eq)]
 pub enum Event {
+    // No event: `none` in a listing.
+    Nothing,
     OrderScreened {
         order: u8,
         exclusion: u8,

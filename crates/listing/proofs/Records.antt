@@ -7,7 +7,7 @@ use lib.ListN.{length, get_or, take, length-append}
 use Rattle.std.specs.List.{flat_map}
 use Rattle.std.proofs.lemmas.List.Folds.{length-flat_map-take}
 use Rattle.events.specs.declared.Event.{Event}
-use Rattle.events.specs.declared.Event.TheVariants.{OrderScreened}
+use Rattle.events.specs.declared.Event.TheVariants.{Nothing}
 use Rattle.octets.specs.Puts.{Puts}
 use Rattle.octets.proofs.Decimal.{most_digits}
 use Rattle.octets.proofs.Spliced.{puts_puts}
@@ -17,7 +17,7 @@ use Rattle.listing.proofs.Fields.{flat_more}
 
 -- the event at a place, as an index reads it
 abbrev pub event_at : List Event → ℕ → Event
-event_at l i = get_or l i (OrderScreened 0 0)
+event_at l i = get_or l i Nothing
 
 -- the lines as std joins lists
 lines_flat : (number : ℕ) (l : List Event) → event_lines number l ≡ flat_map (event_line number) l
@@ -29,11 +29,11 @@ lines_flat number (e ∷ es) = rw (lines_flat number es) refl
 pub lines_more : (number i : ℕ) (l : List Event) → i < length l
     → event_lines number (take (i + 1) l) ≡ event_lines number (take i l) ++ event_line number (event_at l i)
 lines_more number i l h =
-    rw (lines_flat number (take (i + 1) l), lines_flat number (take i l)) (flat_more (event_line number) i l (OrderScreened 0 0) h)
+    rw (lines_flat number (take (i + 1) l), lines_flat number (take i l)) (flat_more (event_line number) i l Nothing h)
 
 pub lines_within : (number i : ℕ) (l : List Event) → i < length l
     → length (event_lines number (take i l)) + length (event_line number (event_at l i)) ≤ length (event_lines number l)
-lines_within number i l h = rw (lines_flat number (take i l), lines_flat number l) (length-flat_map-take (event_line number) l i (OrderScreened 0 0) h)
+lines_within number i l h = rw (lines_flat number (take i l), lines_flat number l) (length-flat_map-take (event_line number) l i Nothing h)
 
 pub lengths_more : (number i : ℕ) (l : List Event) → i < length l
     → length (event_lines number (take (i + 1) l)) ≡ length (event_lines number (take i l)) + length (event_line number (event_at l i))

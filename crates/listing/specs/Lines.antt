@@ -5,7 +5,7 @@ use Rattle.laws.specs.Sums.{only}
 use Rattle.octets.specs.Decimal.{decimal, max_digits}
 use Rattle.events.specs.Events.{max_events}
 use Rattle.events.specs.declared.Event.{Event}
-use Rattle.events.specs.declared.Event.TheVariants.{OrderScreened, Cleared, SessionFailed, FillAllocated, RofrExercised, RofrClosed, FillSettled, FillSkipped, ClearingPrint, PhaseChanged, Opened, Ordered, Refused}
+use Rattle.events.specs.declared.Event.TheVariants.{Nothing, OrderScreened, Cleared, SessionFailed, FillAllocated, RofrExercised, RofrClosed, FillSettled, FillSkipped, ClearingPrint, PhaseChanged, Opened, Ordered, Refused}
 use Rattle.listing.specs.Words.{open_word, order_word, screen_word, clear_word, failed_word, fill_word, rofr_word, close_word, settle_word, skip_word, print_word, phase_word, refused_word, none_word, end_word, space, newline}
 
 -- numbers, with a space before each
@@ -23,6 +23,7 @@ bare_line word nums = (word ++ fields nums) ++ (newline ∷ [])
 
 -- the line of an event; and `open`, `order I`, `refused R`, which are no events of the source
 abbrev pub event_line : (number : ℕ) → Event → List ℕ
+event_line number Nothing = line number none_word []
 event_line number (OrderScreened order exclusion) = line number screen_word (order ∷ exclusion ∷ [])
 event_line number (Cleared price volume reserve reference) = line number clear_word (price ∷ volume ∷ reserve ∷ reference ∷ [])
 event_line number (SessionFailed reason) = line number failed_word (reason ∷ [])

@@ -25,6 +25,7 @@ fn put_event(out: &mut [u8], number: u64, event: &Event) -> usize
     ensures { Puts (event_line number event.now) 0 result out.old out.new × (result ≤ max_line) }
 {
     match *event {
+        Event::Nothing => put_line(out, number, b"none", &[]),
         Event::OrderScreened { order, exclusion } => {
             put_line(out, number, b"screen", &[order.into(), exclusion.into()])
         }

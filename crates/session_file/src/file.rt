@@ -120,9 +120,8 @@ fn put_fields(
             Ok(listing::put_events(out, number, &[Event::Opened]))
         }
         Fields::Order(row) => {
-            let order = session.order_count as u64;
-            opening::add_order(session, place.cover, row)?;
-            Ok(listing::put_events(out, number, &[Event::Ordered(order)]))
+            let said = opening::add_order(session, place.cover, row)?;
+            Ok(listing::put_events(out, number, &[said]))
         }
         Fields::Call(call) => {
             call.arguments_refusal()?;
@@ -162,7 +161,7 @@ fn put_allocate(
     ensures room { max_record ≤ length out.old → refusal_in result ≡ 0 }
 {
     match session.allocate_here(now, max_fills) {
-        Ok(said) => listing::put_events(out, number, said.as_slice()),
+        Ok(fills) => listing::put_events(out, number, fills.as_slice()),
         Err(refusal) => put_refused(out, number, refusal),
     }
 }

@@ -56,6 +56,7 @@ pub fn put_events(rt: &impl Output, events: &[Event]) {
 
 fn put_event(rt: &impl Output, event: &Event) {
     match *event {
+        Event::Nothing => say(rt, "none"),
         Event::OrderScreened { order, exclusion } => {
             put(rt, "screen", &[order.into(), exclusion.into()])
         }
