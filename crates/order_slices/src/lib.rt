@@ -3,7 +3,7 @@
 
 ghost use Rattle.std.specs.Prelude.{◌≡◌, length};
 ghost use Rattle.credit_math.specs.Price.{found};
-ghost use Rattle.order_slices.specs.Figures.{figures_of};
+ghost use Rattle.order_slices.specs.Figures.{found_by_number, figures_of};
 ghost use Rattle.order_slices.specs.Slices.{search_orders, bids_refusal, allocate_bids};
 
 use credit_math::allocation::ClearResult;
@@ -95,8 +95,18 @@ pub fn figures_of(answer: Result<Option<ClearResult>, Refusal>) -> Figures
     ensures { result ≡ figures_of (found answer) }
 {
     match answer {
-        Err(refusal) => Figures {
-            refusal: refusal.number(),
+        Err(refusal) => figures_by_number(Err(refusal.number())),
+        Ok(cross) => figures_by_number(Ok(cross)),
+    }
+}
+
+// The same of a refusal by its number, whichever number it is.
+pub fn figures_by_number(answer: Result<Option<ClearResult>, u8>) -> Figures
+    ensures { result ≡ figures_of (found_by_number answer) }
+{
+    match answer {
+        Err(number) => Figures {
+            refusal: number,
             ..Figures::default()
         },
         Ok(None) => Figures::default(),
