@@ -4,7 +4,7 @@ ghost use Rattle.credit_math.specs.Limits.{max_orders};
 ghost use Rattle.book.specs.Clear.{stored, floor_of, outcome_of, compute_clear};
 ghost use Rattle.book.specs.Gathered.{Gathered, Cleared, Priced, Allocated, Allotted, Trading};
 
-use crate::gathered::{Live, Side};
+pub use crate::gathered::{Live, Side};
 use crate::{Given, Order, Params};
 use credit_math::MAX_ORDERS;
 use credit_math::allocation::{allocate_pro_rata, find_uniform_clear_price};
