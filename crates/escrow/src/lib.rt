@@ -71,5 +71,9 @@ fn power_of_ten(decimals: u8) -> u64
     requires { decimals ≤ max_decimals }
     ensures { result ≡ 10 ^ decimals }
 {
-    10u64.pow(u32::from(decimals))
+    let mut power = 1u64;
+    for _ in 0..decimals {
+        power *= 10;
+    }
+    power
 }

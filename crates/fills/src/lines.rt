@@ -1,5 +1,5 @@
 // The lots of the two sides, laid end to end.
-ghost use Rattle.std.specs.Prelude.{◌≡◌, if◌then◌else◌, ◌-◌, ◌≤◌, ◌==◌, length};
+ghost use Rattle.std.specs.Prelude.{◌≡◌, if◌then◌else◌, ◌-◌, ◌<◌, ◌≤◌, ◌==◌, length};
 ghost use Rattle.credit_math.specs.Limits.{max_orders};
 
 // Sides.
@@ -25,7 +25,7 @@ struct Hand {
 
 impl Lots<'_> {
     ghost use Rattle.fills.specs.FillCount.{fill_count};
-    ghost use Rattle.fills.specs.Steps.{Taken};
+    ghost use Rattle.fills.specs.Steps.{Taken, lot_on};
 
     // Lay each side's lots end to end from 0. A fill is what lies between one end of a lot, on either line, and the next: so it takes the smaller
     // of the two lots in hand off both, as the crank does, and no sum is ever formed. Where one line has run out, a fill is a whole lot.
@@ -54,26 +54,34 @@ impl Lots<'_> {
     }
 
     // The hand as it is; where nothing is left in it, with the side's next lot above 0, if there is one.
-    #[tactic(auto, using(crate::proofs::Hands::take_next, crate::proofs::Hands::nothing_ahead), unfolding(crate::specs::Steps::lot_on))]
+    #[tactic(auto, using(crate::proofs::Hands::take_next, crate::proofs::Hands::nothing_ahead))]
     fn next_lot(&self, side: u8, hand: Hand) -> Hand
         requires { hand.next ≤ length self.now.lots.now }
         ensures { Taken side self.now.lots.now self.now.sides.now hand result }
     {
-        if hand.left != 0 {
-            return hand;
-        }
-        for next in hand.next..self.lots.len() {
-            let lot = self.lots[next];
-            if (self.sides[next] == side) & (0 < lot) {
-                return Hand {
-                    left: lot,
-                    next: next + 1,
-                };
+        let mut now = hand;
+        for i in hand.next..self.lots.len() {
+            if now.left != 0 {
+                return now;
             }
+            now = Hand {
+                left: self.lot_on(side, i),
+                next: i + 1,
+            };
         }
-        Hand {
-            left: 0,
-            next: self.lots.len(),
+        now
+    }
+
+    // The lot of a place, if it is of that side.
+    #[tactic(auto, unfolding(crate::specs::Steps::lot_on))]
+    fn lot_on(&self, side: u8, i: usize) -> u64
+        requires { i < length self.now.lots.now }
+        ensures { result ≡ lot_on side self.now.lots.now self.now.sides.now i }
+    {
+        if self.sides[i] == side {
+            self.lots[i]
+        } else {
+            0
         }
     }
 }
