@@ -33,34 +33,39 @@ impl Lots<'_> {
     pub fn counted(&self) -> u64
         ensures { result ≡ fill_count self.now.lots.now self.now.sides.now }
     {
-        let nothing = Hand { left: 0, next: 0 };
-        let mut buy = self.next_lot(BUY, nothing);
-        let mut sell = self.next_lot(SELL, nothing);
+        let mut buy = self.next_lot(BUY, 0);
+        let mut sell = self.next_lot(SELL, 0);
         let mut count = 0;
         while (0 < buy.left) | (0 < sell.left) {
-            let bought = Hand {
-                left: less(buy.left, sell.left),
-                next: buy.next,
-            };
-            let sold = Hand {
-                left: less(sell.left, buy.left),
-                next: sell.next,
-            };
-            buy = self.next_lot(BUY, bought);
-            sell = self.next_lot(SELL, sold);
+            let bought = less(buy.left, sell.left);
+            let sold = less(sell.left, buy.left);
+            buy = self.in_hand(BUY, bought, buy.next);
+            sell = self.in_hand(SELL, sold, sell.next);
             count += 1;
         }
         count
     }
 
-    // The hand as it is; where nothing is left in it, with the side's next lot above 0, if there is one.
-    #[tactic(auto, using(crate::proofs::Hands::take_next, crate::proofs::Hands::nothing_ahead))]
-    fn next_lot(&self, side: u8, hand: Hand) -> Hand
-        requires { hand.next ≤ length self.now.lots.now }
-        ensures { Taken side self.now.lots.now self.now.sides.now hand result }
+    // What is left of a lot; where nothing is, the side's next lot.
+    fn in_hand(&self, side: u8, left: u64, next: usize) -> Hand
+        requires { next ≤ length self.now.lots.now }
+        ensures { Taken side self.now.lots.now self.now.sides.now (record { left = left; next = next }) result }
     {
-        let mut now = hand;
-        for i in hand.next..self.lots.len() {
+        if left == 0 {
+            self.next_lot(side, next)
+        } else {
+            Hand { left, next }
+        }
+    }
+
+    // The side's next lot above 0 from a place on, if there is one.
+    #[tactic(auto, using(crate::proofs::Hands::take_next, crate::proofs::Hands::nothing_ahead))]
+    fn next_lot(&self, side: u8, next: usize) -> Hand
+        requires { next ≤ length self.now.lots.now }
+        ensures { Taken side self.now.lots.now self.now.sides.now (record { left = 0; next = next }) result }
+    {
+        let mut now = Hand { left: 0, next };
+        for i in next..self.lots.len() {
             if now.left != 0 {
                 return now;
             }
