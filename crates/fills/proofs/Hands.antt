@@ -31,6 +31,28 @@ module _ (side : ℕ) (lots sides : List ℕ) where
       let T = table (lot_on side lots sides) (length lots) in
       grind (arith, common_steps, nonzero_none hand.left, drop-cons T hand.next 0, get_or_table (lot_on side lots sides), length_table (lot_on side lots sides))
 
+  -- a lot of the side is the next; any other order, and a lot of 0, has none
+  lot_of : (i : ℕ) → (eqb (get_or sides i 0) side && ltb 0 (get_or lots i 0)) ≡ true → get_or lots i 0 ≡ lot_on side lots sides i
+  unfolding lot_on
+  lot_of i h = let p = both (eqb (get_or sides i 0) side) (ltb 0 (get_or lots i 0)) h in rw p.0
+
+  no_lot : (i : ℕ) → (eqb (get_or sides i 0) side && ltb 0 (get_or lots i 0)) ≡ false → 0 ≡ lot_on side lots sides i
+  unfolding lot_on
+  no_lot i h = go (eqb (get_or sides i 0) side) (get_or lots i 0) h
+    where
+      go : (t : Bool) (lot : ℕ) → (t && ltb 0 lot) ≡ false → 0 ≡ only t lot
+      go false lot h = refl
+      go true zero h = refl
+      go true (suc lot) h = absurd (false≢true (sym h ∙ lt-ltb 0 (suc lot) (omega arith)))
+
+  pub next_taken : (i : ℕ) → i < length lots → (eqb (get_or sides i 0) side && ltb 0 (get_or lots i 0)) ≡ true
+      → nonzero (ahead side lots sides (record { left = get_or lots i 0; next = i + 1 })) ≡ nonzero (ahead side lots sides (record { left = 0; next = i }))
+  next_taken i l h = take_next (record { left = 0; next = i }) (get_or lots i 0) (lot_of i h) refl l
+
+  pub next_passed : (i : ℕ) → i < length lots → (eqb (get_or sides i 0) side && ltb 0 (get_or lots i 0)) ≡ false
+      → nonzero (ahead side lots sides (record { left = 0; next = i + 1 })) ≡ nonzero (ahead side lots sides (record { left = 0; next = i }))
+  next_passed i l h = take_next (record { left = 0; next = i }) 0 (no_lot i h) refl l
+
   -- past the last order an empty hand has nothing ahead
   pub nothing_ahead : (hand : Hand) → hand.left ≡ 0 → length lots ≤ hand.next → nonzero (ahead side lots sides hand) ≡ []
   unfolding ahead nonzero keep
