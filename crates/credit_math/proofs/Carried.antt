@@ -1,15 +1,17 @@
 -- A sum carried along the places: after each place, the row of its limit holds the sum so far, and in the end the total of the places up to that limit. Assumes
 -- nothing.
 use mathlib.Core.Path.{◌≡◌, refl, sym, ◌∙◌, ap}
-use mathlib.Core.Logic.{◌≢◌}
+use mathlib.Core.Logic.{◌≢◌, ⊎_elim}
 use mathlib.Core.Bool.{Bool, true, false, ◌&&◌}
-use Prim.Native.Nat.{ℕ, ◌+◌, ◌*◌, ◌^◌, ◌≤◌, ◌<◌}
-use native.Mathlib.Nat.{lt_of_le_of_lt, lt_of_lt_of_le}
+use Prim.Native.Nat.{ℕ, zero, suc, ◌+◌, ◌-◌, ◌*◌, ◌^◌, ◌≤◌, ◌<◌}
+use native.Mathlib.Nat.{lt_of_le_of_lt, lt_of_lt_of_le, eq-or-lt_of_le}
 use native.Mathlib.Decide.{ℕ_discrete}
 use native.Mathlib.Omega.{arith}
+use lib.Dec.{ltb, leb}
+use borrow.Author.Tests.{lt-ltb, le-ltb, lt-leb, le-leb}
 use Rattle.laws.specs.Sums.{sum_below, only}
-use Rattle.laws.proofs.Tests.{clash}
-use Rattle.laws.proofs.Sums.{sum_same, sum_zero, sum_at, sum_le_sum, sum_mono}
+use Rattle.laws.proofs.Tests.{clash, lt_or_le}
+use Rattle.laws.proofs.Sums.{sum_none, sum_suc, sum_same, sum_zero, sum_at, sum_le_sum, sum_mono}
 use Rattle.laws.proofs.Widths.{sum_below_lem}
 
 -- a term that counts where the rest of its test holds
@@ -21,6 +23,41 @@ only_and false b x h = refl
 pub only_within : (a : Bool) (x : ℕ) → only a x ≤ x
 only_within true x = omega arith
 only_within false x = omega arith
+
+-- the terms below j
+sum_until : (f : ℕ → ℕ) (n j : ℕ) → j ≤ n → sum_below (λ h. only (ltb h j) (f h)) n ≡ sum_below f j
+sum_until f zero j l = let z : j ≡ 0 = omega arith in sum_none (λ h. only (ltb h j) (f h)) ∙ sym (ap (λ (m : ℕ). sum_below f m) z ∙ sum_none f)
+sum_until f (suc n) j l =
+    ⊎_elim
+    (λ (e : j ≡ suc n).
+    sum_same (λ h. only (ltb h j) (f h)) f (suc n) (λ h g. ap (λ (b : Bool). only b (f h)) (lt-ltb h j (omega arith))) ∙ ap (λ (m : ℕ). sum_below f m) (sym e))
+    (λ (g : j < suc n).
+    omega (arith, sum_suc (λ h. only (ltb h j) (f h)) n, sum_until f n j (omega arith), ap (λ (b : Bool). only b (f n)) (le-ltb n j (omega arith))))
+    (eq-or-lt_of_le l)
+
+-- the tests from j on and from the place behind it on agree elsewhere
+from_next : (j k h : ℕ) → k ≡ suc j → h ≢ j → leb j h ≡ leb k h
+from_next j k h e ne =
+    ⊎_elim
+    (λ (g : h < j). lt-leb j h g ∙ sym (lt-leb k h (omega arith)))
+    (λ (g : j ≤ h). le-leb j h g ∙ sym (le-leb k h (omega (arith, ⊎_elim (λ (d : j ≡ h). absurd (ne (sym d))) (λ (a : j < h). a) (eq-or-lt_of_le g)))))
+    (lt_or_le h j)
+
+-- the last m terms, from the last on
+sum_back : (f : ℕ → ℕ) (n m : ℕ) → m ≤ n → sum_below (λ h. only (leb (n - m) h) (f h)) n ≡ sum_below (λ k. f (n - 1 - k)) m
+sum_back f n zero l =
+    sum_zero (λ h. only (leb (n - 0) h) (f h)) n (λ h g. ap (λ (b : Bool). only b (f h)) (lt-leb (n - 0) h (omega arith))) ∙ sym (sum_none (λ k. f (n - 1 - k)))
+sum_back f n (suc m) l =
+    let j = n - suc m in
+    omega (
+      arith,
+      sum_at (λ h. only (leb j h) (f h)) (λ h. only (leb (n - m) h) (f h)) n j (omega arith) (λ h _ ne. ap (λ (b : Bool). only b (f h)) (from_next j (n - m) h (omega arith) ne)),
+      ap (λ (b : Bool). only b (f j)) (le-leb j j (omega arith)),
+      ap (λ (b : Bool). only b (f j)) (lt-leb (n - m) j (omega arith)),
+      sum_back f n m (omega arith),
+      sum_suc (λ k. f (n - 1 - k)) m,
+      ap f (let e : n - 1 - m ≡ j = omega arith in e),
+    )
 
 -- n places, each with its value, what it adds and its row; `le` is the order in which they are passed
 module _ (n : ℕ) (v q row : ℕ → ℕ) (le : ℕ → ℕ → Bool) where
@@ -108,3 +145,12 @@ module _ (n : ℕ) (v q row : ℕ → ℕ) (le : ℕ → ℕ → Bool) where
 
     pub none_held : (m : ℕ) → ((i : ℕ) → i < n → row i < m) → out m ≡ 0
     none_held m h = c.blank m (λ i l t e. omega (arith, h i l))
+
+  -- what is carried up to j is the sum of the places below j; and down to j that of the places from the last on
+  pub carried_up : {sum j : ℕ} {out : ℕ → ℕ} → Carrying (λ h. ltb h j) sum out → j ≤ n → sum ≡ sum_below q j
+  carried_up {sum} {j} c l = c.carried ∙ sum_until q n j l
+
+  pub carried_down : {sum j : ℕ} {out : ℕ → ℕ} → Carrying (λ h. leb j h) sum out → j ≤ n → sum ≡ sum_below (λ k. q (n - 1 - k)) (n - j)
+  carried_down {sum} {j} c l =
+      let e : j ≡ n - (n - j) = omega arith in
+      c.carried ∙ ap (λ (i : ℕ). sum_below (λ h. only (leb i h) (q h)) n) e ∙ sum_back q n (n - j) (omega arith)
