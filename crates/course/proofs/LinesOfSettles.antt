@@ -1,4 +1,4 @@
--- The fills settled by a list of calls are those of its accepted settles, and each `settle` line names one of them. Assumes nothing.
+-- The fills settled by a list of calls are those of its accepted settles, and each `settle` line names one of them. No call says `Nothing`. Assumes nothing.
 use mathlib.Core.Path.{◌≡◌, refl, sym, ap₂, ◌∙◌, subst}
 use mathlib.Core.Logic.{inl, inr}
 use mathlib.Core.Bool.{Bool, true, false, cond}
@@ -17,7 +17,7 @@ use Rattle.auction_engine.specs.Clearing.{outcome, clear_lines}
 use Rattle.auction_engine.specs.Matching.{due, one, after_fills, done, fill_events, allocate_events}
 use Rattle.auction_engine.specs.Rofr.{exercise_events, close_events}
 use Rattle.auction_engine.specs.Settlement.{settle_events, skip_events, finish_events, expire_events}
-use Rattle.auction_engine.specs.Engine.{refusal, events, answer}
+use Rattle.auction_engine.specs.Engine.{refusal, effect, events, refused_by, answer}
 use Rattle.course.specs.Course.{Run, begin, note, advance, run}
 use Rattle.course.specs.Demand3.{after}
 use Rattle.course.specs.Lines.{said_by, lines_of, settled_by, settled_in}
@@ -55,9 +55,9 @@ run_settled (c ∷ l) r =
 pub all_settled : (s : Session) (l : List Call) → (after s l).settled ≡ settled_in s l
 all_settled s l = run_settled l (begin s) ∙ append-nil (settled_in s l)
 
--- a line that is a `settle` names a fill of the list k; every line does
+-- a line that is a `settle` names a fill of the list k, and a line says something; every line does
 abbrev Names : List ℕ → Event → Type 0
-Names k Nothing = Unit
+Names k Nothing = ⊥
 Names k (OrderScreened order exclusion) = Unit
 Names k (Cleared price volume reserve reference) = Unit
 Names k (SessionFailed reason) = Unit
@@ -76,9 +76,9 @@ abbrev Each : List ℕ → List Event → Type 0
 Each k [] = Unit
 Each k (e ∷ es) = Names k e × Each k es
 
-each_at : (k : List ℕ) (i qty price : ℕ) (before rest : List Event) → Each k (before ++ (FillSettled i qty price ∷ rest)) → Member i k
-each_at k i qty price [] rest h = h.0
-each_at k i qty price (e ∷ before) rest h = each_at k i qty price before rest h.1
+each_at : (k : List ℕ) (e : Event) (before rest : List Event) → Each k (before ++ (e ∷ rest)) → Names k e
+each_at k e [] rest h = h.0
+each_at k e (f ∷ before) rest h = each_at k e before rest h.1
 
 each_append : (k : List ℕ) (es fs : List Event) → Each k es → Each k fs → Each k (es ++ fs)
 each_append k [] fs h g = g
@@ -117,6 +117,20 @@ said_names k s c h = go (eqb (refusal s c) 0) refl
     go true e = call_names k s c e h
     go false e = tt
 
+-- an answer's events are what is said, and none of them is `Nothing`
+events_said : (s : Session) (c : Call) → (answer s c).events ≡ said_by s c
+unfolding answer
+events_said s c = go (eqb (refusal s c) 0)
+  where
+    go : (x : Bool) → (cond x (record { refusal = 0; session = effect s c; events = events s c }) (refused_by s (refusal s c))).events ≡ cond x (events s c) []
+    go true = refl
+    go false = refl
+
+pub never_nothing : (s : Session) (c : Call) (before rest : List Event) → (answer s c).events ≡ before ++ (Nothing ∷ rest) → ⊥
+never_nothing s c before rest e =
+    let k = settled_by s c in
+    each_at k Nothing before rest (subst (Each k) (sym (events_said s c) ∙ e) (said_names k s c (λ _ m. m)))
+
 -- membership in lists that are put together
 member_left : (i : ℕ) (l k : List ℕ) → Member i l → Member i (l ++ k)
 member_left i [] k m = absurd m
@@ -139,4 +153,4 @@ pub line_settled : (s : Session) (l : List Call) (i qty price : ℕ) (before res
     → Member i (after s l).settled
 line_settled s l i qty price before rest e =
     let k = settled_in s l in
-    rw (all_settled s l) (each_at k i qty price before rest (subst (Each k) e (lines_name k s l (λ _ m. m))))
+    rw (all_settled s l) (each_at k (FillSettled i qty price) before rest (subst (Each k) e (lines_name k s l (λ _ m. m))))
