@@ -35,13 +35,10 @@ sum_until f (suc n) j l =
     omega (arith, sum_suc (λ h. only (ltb h j) (f h)) n, sum_until f n j (omega arith), ap (λ (b : Bool). only b (f n)) (le-ltb n j (omega arith))))
     (eq-or-lt_of_le l)
 
--- the tests from j on and from the place behind it on agree elsewhere
-from_next : (j k h : ℕ) → k ≡ suc j → h ≢ j → leb j h ≡ leb k h
+-- the tests from j on and from the place behind it on agree at every other place
+pub from_next : (j k h : ℕ) → k ≡ suc j → h ≢ j → leb j h ≡ leb k h
 from_next j k h e ne =
-    ⊎_elim
-    (λ (g : h < j). lt-leb j h g ∙ sym (lt-leb k h (omega arith)))
-    (λ (g : j ≤ h). le-leb j h g ∙ sym (le-leb k h (omega (arith, ⊎_elim (λ (d : j ≡ h). absurd (ne (sym d))) (λ (a : j < h). a) (eq-or-lt_of_le g)))))
-    (lt_or_le h j)
+    ⊎_elim (λ (a : h < j). lt-leb j h a ∙ sym (lt-leb k h (omega arith))) (λ (a : j ≤ h). le-leb j h a ∙ sym (le-leb k h (omega arith))) (lt_or_le h j)
 
 -- the last m terms, from the last on
 sum_back : (f : ℕ → ℕ) (n m : ℕ) → m ≤ n → sum_below (λ h. only (leb (n - m) h) (f h)) n ≡ sum_below (λ k. f (n - 1 - k)) m
